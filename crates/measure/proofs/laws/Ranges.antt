@@ -1,0 +1,26 @@
+-- Laws of the ranges: one measure taken off the front, and the greatest measure.
+use mathlib.Core.Path.{_≡_, refl, sym, ap, _∙_}
+use mathlib.Core.Bool.{true, _&&_}
+use mathlib.Core.List.{List, [], _∷_}
+use Prim.Native.Nat.{ℕ, _+_, _≤_, _<_}
+use borrow.Author.Tests.{leb-true}
+use lib.Dec.{leb}
+use lib.ListN.{length, drop, getD}
+use Rattle.measure.specs.Ranges.{within, allWithin}
+use Rattle.measure.specs.Handed.{AllAtMost, none, more}
+use Rattle.measure.specs.declared.ranges.Range.{Range}
+use Rattle.measure.proofs.laws.Tests.{and-left, and-right}
+use Rattle.measure.proofs.laws.Multipliers.{drop-step}
+
+pub all-within-step : (r : Range) (i : ℕ) (xs : List ℕ) → i < length xs
+    → allWithin r (drop i xs) ≡ (within r (getD xs i 0) && allWithin r (drop (i + 1) xs))
+all-within-step r i xs h = ap (allWithin r) (drop-step xs i h)
+
+pub within-most : (r : Range) (x : ℕ) → within r x ≡ true → x ≤ r .most
+unfolding within
+within-most r x e = leb-true x (r .most) (and-right (leb (r .least) x) (leb x (r .most)) e)
+
+pub all-at-most : (r : Range) (xs : List ℕ) → allWithin r xs ≡ true → AllAtMost (r .most) xs
+all-at-most r [] e = none
+all-at-most r (x ∷ xs) e =
+    more (within-most r x (and-left (within r x) (allWithin r xs) e)) (all-at-most r xs (and-right (within r x) (allWithin r xs) e))

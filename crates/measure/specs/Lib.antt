@@ -1,0 +1,12 @@
+-- The measuring rules of document 01, in its order: read these files from top to bottom.
+pub mod Kinds
+pub mod Rounding
+pub mod Parts
+pub mod Thirds
+pub mod Multipliers
+pub mod Volumes
+pub mod Ranges
+pub mod Refusals
+pub mod Offsets
+pub mod Allowances
+pub mod Handed

@@ -1,0 +1,168 @@
+// One space measured from its offsets: its tonnage, or refusal 2 or 3.
+use crate::kinds::Kind;
+use crate::kinds::is_kind;
+use crate::kinds::kind_of;
+use crate::parts::by_table;
+use crate::parts::of_depth;
+use crate::parts::of_kind;
+use crate::parts::of_superstructure;
+use crate::parts::of_under_deck;
+use crate::ranges::all_within;
+use crate::ranges::breadths as breadth_range;
+use crate::ranges::heights as height_range;
+use crate::ranges::lengths;
+use crate::ranges::tonnage_lengths;
+use crate::ranges::within;
+use crate::units::Hundredths;
+use crate::volumes::box_tons;
+use crate::volumes::level_tons;
+use crate::volumes::under_deck_tons;
+ghost use mathlib.Core.Path.{_≡_};
+ghost use Rattle.measure.specs.Offsets.{inRange, stations as stationsOf, breadthsAtStation, counted as countedOf, tonnage as tonnageOf, measured};
+ghost use Rattle.measure.specs.Handed.{Taken};
+
+// The paper's number, 0 where accepted, and the tonnage in hundredths of a ton, 0 where refused.
+pub struct Measured {
+    pub number: u8,
+    pub tonnage: u32,
+}
+
+// 2: a kind or measure outside its range. Every measure handed in is judged, surplus ones too.
+const OUTSIDE_ITS_RANGE: u8 = 2;
+// 3: stations, depths, heights or breadths not the number the rules ask.
+const NOT_THE_NUMBER_ASKED: u8 = 3;
+
+// Measures one space. `heights` are the depths at a U's stations, the heights at a B's or S's, the one height of an H
+// or R; `breadths` go station by station from the bow, and at a U's station from above.
+pub fn measure_offsets(
+    code: u8,
+    tonnage_length: Hundredths,
+    length: Hundredths,
+    heights: &[u32],
+    breadths: &[u32],
+) -> Measured
+    ensures { λ r. ⌜ r ≡ measured code «tonnage_length» length (now (heights .entry)) (now (breadths .entry)) ⌝ }
+{
+    let kind = kind_of(code);
+    if !in_range(kind, tonnage_length, length, heights, breadths) {
+        return Measured {
+            number: OUTSIDE_ITS_RANGE,
+            tonnage: 0,
+        };
+    }
+    if !counted(kind, tonnage_length, length, heights, breadths) {
+        return Measured {
+            number: NOT_THE_NUMBER_ASKED,
+            tonnage: 0,
+        };
+    }
+    Measured {
+        number: 0,
+        tonnage: tonnage(kind, tonnage_length, length, heights, breadths),
+    }
+}
+
+// One station more than parts; the one length, breadth and height of a hatchway or a room count as one station.
+pub fn stations(kind: Kind, tonnage_length: Hundredths, length: Hundredths) -> usize
+    ensures { λ r. ⌜ r ≡ stationsOf kind «tonnage_length» length ⌝ }
+{
+    of_kind(kind, tonnage_length, length) + 1
+}
+
+// A U has m + 1 breadths at each station, m by the depth at its middle station; any other space has one.
+pub fn breadths_at_station(kind: Kind, middle: Hundredths) -> usize
+    ensures { λ r. ⌜ r ≡ breadthsAtStation kind middle ⌝ }
+{
+    match kind {
+        Kind::UnderDeck => of_depth(middle) + 1,
+        Kind::BetweenDeck => 1,
+        Kind::Superstructure => 1,
+        Kind::Hatchway => 1,
+        Kind::Room => 1,
+        Kind::NoKind => 1,
+    }
+}
+
+// The kind, the tonnage length, the length and every measure are in their ranges.
+fn in_range(
+    kind: Kind,
+    tonnage_length: Hundredths,
+    length: Hundredths,
+    heights: &[u32],
+    breadths: &[u32],
+) -> bool
+    ensures { λ r. ⌜ r ≡ inRange kind «tonnage_length» length (now (heights .entry)) (now (breadths .entry)) ⌝ }
+{
+    if !is_kind(kind) {
+        return false;
+    }
+    if !within(tonnage_lengths(), tonnage_length.0) {
+        return false;
+    }
+    if !within(lengths(kind), length.0) {
+        return false;
+    }
+    if !all_within(height_range(kind), heights) {
+        return false;
+    }
+    all_within(breadth_range(kind), breadths)
+}
+
+// There are as many heights and breadths as the rules ask.
+fn counted(
+    kind: Kind,
+    tonnage_length: Hundredths,
+    length: Hundredths,
+    heights: &[u32],
+    breadths: &[u32],
+) -> bool
+    ensures { λ r. ⌜ r ≡ countedOf kind «tonnage_length» length (now (heights .entry)) (now (breadths .entry)) ⌝ }
+{
+    if heights.len() != stations(kind, tonnage_length, length) {
+        return false;
+    }
+    let middle = heights[heights.len() / 2];
+    breadths.len() == heights.len() * breadths_at_station(kind, Hundredths(middle))
+}
+
+// A U in range and of the number asked.
+fn under_deck(
+    tonnage_length: Hundredths,
+    length: Hundredths,
+    depths: &[u32],
+    breadths: &[u32],
+) -> u32
+    requires { ⌜ Taken Kind.UnderDeck «tonnage_length» length (now depths) (now breadths) ⌝ }
+    ensures { λ r. ⌜ r ≡ tonnageOf Kind.UnderDeck «tonnage_length» length (now (depths .entry)) (now (breadths .entry)) ⌝ }
+{
+    let n = of_under_deck(tonnage_length, length);
+    let middle = depths[depths.len() / 2];
+    let m = of_depth(Hundredths(middle));
+    under_deck_tons(length, n, m, depths, breadths)
+}
+
+// The tonnage of offsets that are in range and of the number asked.
+fn tonnage(
+    kind: Kind,
+    tonnage_length: Hundredths,
+    length: Hundredths,
+    heights: &[u32],
+    breadths: &[u32],
+) -> u32
+    requires { ⌜ Taken kind «tonnage_length» length (now heights) (now breadths) ⌝ }
+    ensures { λ r. ⌜ r ≡ tonnageOf kind «tonnage_length» length (now (heights .entry)) (now (breadths .entry)) ⌝ }
+{
+    match kind {
+        Kind::UnderDeck => under_deck(tonnage_length, length, heights, breadths),
+        Kind::BetweenDeck => level_tons(length, by_table(tonnage_length), heights, breadths),
+        Kind::Superstructure => level_tons(
+            length,
+            of_superstructure(tonnage_length, length),
+            heights,
+            breadths,
+        ),
+        Kind::Hatchway => box_tons(length, heights, breadths),
+        Kind::Room => box_tons(length, heights, breadths),
+        Kind::NoKind => box_tons(length, heights, breadths),
+    }
+}

@@ -1,0 +1,5 @@
+pub mod Rounding
+pub mod Parts
+pub mod Refusals
+pub mod Offsets
+pub mod Figures

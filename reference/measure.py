@@ -1,0 +1,240 @@
+"""The measuring rules of one space, and the hatchways and water ballast in the gross, with exact fractions.
+
+Lengths, breadths, depths and heights are handed in as hundredths of a foot and tonnages as hundredths of a ton.
+Volumes are worked out in cubic feet, as exact fractions, and rounded once at the end.
+Paragraph numbers are those of 46 CFR part 69; where one reads "the paper", the rule stands only there.
+"""
+
+from fractions import Fraction
+from math import floor
+from typing import Sequence
+
+# Kinds of space, by code (the paper, "Spaces").
+U = 1  # under-deck part, 69.109
+B = 2  # between-deck level, 69.111
+S = 3  # superstructure, 69.113
+H = 4  # hatchway, 69.115
+R = 5  # room, 69.117 and 69.119
+KINDS = (U, B, S, H, R)
+
+# Numbers of an answer (the paper, "Numbers of refusal").
+ACCEPTED = 0
+OUT_OF_RANGE = 2  # a kind or measure outside its range
+WRONG_NUMBER = 3  # stations, depths, heights or breadths not the number the rules ask
+
+# Units (the paper, "Units and roundings").
+HUNDREDTHS = 100  # in a foot and in a ton
+THOUSANDTHS = 1000  # in a foot: a longitudinal third interval, 69.109(g)(2)
+CUBIC_FEET_IN_A_TON = 100  # 69.109(l)(4)
+
+# The table of 69.109(g)(1): the greatest length of each class, in hundredths of a foot, and its divisions.
+TABLE = ((5000, 6), (10000, 8), (15000, 10), (20000, 12), (25000, 14))
+DIVISIONS_OF_THE_LAST_CLASS = 16  # over 250 feet
+
+TWO_PARTS_UP_TO = 2000  # 69.109(m)(1)(i), 20 feet or under
+FOUR_PARTS_UNDER = 4000  # 69.109(m)(1)(ii), over 20 feet and under 40 feet
+EVEN_NUMBERS = range(2, 17, 2)  # for a superstructure, 69.113(b)(2) and the paper
+FOUR_DEPTH_PARTS_UP_TO = 1600  # 69.109(h)(4)(i), 16 feet or less
+
+HATCHWAY_SHARE = Fraction(1, 200)  # 69.115(c), one-half of one percent
+BALLAST_SHARE = Fraction(30, 100)  # 69.117(f)(4), 30%
+
+# Ranges (the paper, "Ranges"), all in hundredths of a foot. Hatchways and rooms have the same greatest measures.
+GREATEST_LENGTH, GREATEST_BREADTH, GREATEST_HEIGHT = 150_000, 30_000, 20_000
+TONNAGE_LENGTHS = range(100, GREATEST_LENGTH + 1)
+LEAST_LENGTH = {U: 100, B: 100, S: 1, H: 1, R: 1}
+LEAST_BREADTH = LEAST_HEIGHT = {U: 0, B: 0, S: 0, H: 1, R: 1}
+LENGTHS = {kind: range(LEAST_LENGTH[kind], GREATEST_LENGTH + 1) for kind in KINDS}
+BREADTHS = {kind: range(LEAST_BREADTH[kind], GREATEST_BREADTH + 1) for kind in KINDS}
+HEIGHTS = {kind: range(LEAST_HEIGHT[kind], GREATEST_HEIGHT + 1) for kind in KINDS}
+
+
+# Units and roundings
+
+def nearest(x: Fraction) -> int:
+    """'"Nearest" means a half goes up.'"""
+    return floor(x + Fraction(1, 2))
+
+
+def feet(hundredths: int) -> Fraction:
+    """Lengths, breadths, depths and heights are in hundredths of a foot."""
+    return Fraction(hundredths, HUNDREDTHS)
+
+
+def third_of_length(length: int, parts: int) -> int:
+    """'Third interval of a length L in n parts: 10L/(3n), nearest', in thousandths of a foot."""
+    return nearest(feet(length) / (3 * parts) * THOUSANDTHS)
+
+
+def third_of_depth(depth: int, parts: int) -> int:
+    """'Of a depth D in m parts: D/(3m), nearest', in hundredths of a foot."""
+    return nearest(feet(depth) / (3 * parts) * HUNDREDTHS)
+
+
+def tonnage(volume: Fraction) -> int:
+    """'A space's tonnage is rounded once': hundredths of a ton of 100 cubic feet from a volume in cubic feet."""
+    return nearest(volume / CUBIC_FEET_IN_A_TON * HUNDREDTHS)
+
+
+# Parts of a length
+
+def parts_by_table(length: int) -> int:
+    """'Up to 50 ft 6 parts; over 50 to 100, 8; to 150, 10; to 200, 12; to 250, 14; over 250, 16.'"""
+    for greatest, divisions in TABLE:
+        if length <= greatest:
+            return divisions
+    return DIVISIONS_OF_THE_LAST_CLASS
+
+
+def parts_of_step_part(length: int) -> int:
+    """'20 ft or under, two parts; over 20 and under 40, four; 40 or over, the table.'"""
+    if length <= TWO_PARTS_UP_TO:
+        return 2
+    if length < FOUR_PARTS_UNDER:
+        return 4
+    return parts_by_table(length)
+
+
+def parts_of_under_deck(tonnage_length: int, length: int) -> int:
+    """'A U whose length is the tonnage length uses [the table]. Any other U is a part made by a step.'"""
+    return parts_by_table(length) if length == tonnage_length else parts_of_step_part(length)
+
+
+def parts_of_superstructure(tonnage_length: int, length: int) -> int:
+    """'The even number from 2 to 16 whose interval is nearest ... on a tie, the greater number.'"""
+    interval = Fraction(tonnage_length, parts_by_table(tonnage_length))
+    return min(EVEN_NUMBERS, key=lambda number: (abs(Fraction(length, number) - interval), -number))
+
+
+def parts(kind: int, tonnage_length: int, length: int) -> int:
+    """The number of parts of a space's length; 0 for a kind that isn't divided."""
+    if kind == U:
+        return parts_of_under_deck(tonnage_length, length)
+    if kind == B:  # "the number that the table gives the tonnage length"
+        return parts_by_table(tonnage_length)
+    if kind == S:
+        return parts_of_superstructure(tonnage_length, length)
+    return 0
+
+
+def division(kind: int, tonnage_length: int, length: int) -> tuple[int, int]:
+    """The number of parts and the third interval in thousandths, for any lengths; (0, 0) where nothing is divided."""
+    number = parts(kind, tonnage_length, length)
+    return (number, third_of_length(length, number)) if number else (0, 0)
+
+
+# U, B and S, H and R
+
+def parts_of_depth(middle_depth: int) -> int:
+    """'The depth at the middle station fixes m for all stations: 4 if 16 ft or less, else 6.'"""
+    return 4 if middle_depth <= FOUR_DEPTH_PARTS_UP_TO else 6
+
+
+def multipliers(count: int) -> list[int]:
+    """'First and last breadth once, even-numbered four times, other odd-numbered twice.'"""
+    return [1 if number in (1, count) else 4 if number % 2 == 0 else 2 for number in range(1, count + 1)]
+
+
+def multiplied_sum(values: Sequence[Fraction]) -> Fraction:
+    """The values times their multipliers, added together."""
+    return sum((times * value for times, value in zip(multipliers(len(values)), values)), Fraction(0))
+
+
+def middle_depth(depths: Sequence[int]) -> int:
+    """The depth at the middle one of an odd number of stations."""
+    return depths[len(depths) // 2]
+
+
+def area_of_station(depth: int, breadths: Sequence[int]) -> Fraction:
+    """'The sum times that station's third interval of depth', in square feet."""
+    third = Fraction(third_of_depth(depth, len(breadths) - 1), HUNDREDTHS)
+    return multiplied_sum([feet(breadth) for breadth in breadths]) * third
+
+
+def over_length(length: int, values: Sequence[Fraction]) -> Fraction:
+    """'The same multipliers over the areas, times the third interval of length': one value a station."""
+    third = Fraction(third_of_length(length, len(values) - 1), THOUSANDTHS)
+    return multiplied_sum(values) * third
+
+
+def volume_of_under_deck(length: int, depths: Sequence[int], breadths: Sequence[int]) -> Fraction:
+    """The cubic feet of a U: 'each station has m+1 breadths, from above', and every end section counts as entered."""
+    row = parts_of_depth(middle_depth(depths)) + 1
+    rows = [breadths[first:first + row] for first in range(0, len(breadths), row)]
+    return over_length(length, [area_of_station(depth, of_station) for depth, of_station in zip(depths, rows)])
+
+
+def volume_of_level(length: int, heights: Sequence[int], breadths: Sequence[int]) -> Fraction:
+    """The cubic feet of a B or S: an area 'times the plain mean of the heights gives the volume'."""
+    area = over_length(length, [feet(breadth) for breadth in breadths])
+    return area * sum(feet(height) for height in heights) / len(heights)
+
+
+def volume_of_box(length: int, height: int, breadth: int) -> Fraction:
+    """The cubic feet of an H or R: 'length times breadth times height'."""
+    return feet(length) * feet(breadth) * feet(height)
+
+
+def volume(kind: int, length: int, heights: Sequence[int], breadths: Sequence[int]) -> Fraction:
+    """The cubic feet of a space that has the measures its kind asks for."""
+    if kind == U:
+        return volume_of_under_deck(length, heights, breadths)
+    if kind in (B, S):
+        return volume_of_level(length, heights, breadths)
+    return volume_of_box(length, heights[0], breadths[0])
+
+
+# Refusals 2 and 3
+
+def out_of_range(kind: int, tonnage_length: int, length: int, heights: Sequence[int], breadths: Sequence[int]) -> bool:
+    """2: 'a kind, measure ... outside its range'; every measure handed in is judged, surplus ones too."""
+    return (
+        kind not in KINDS
+        or tonnage_length not in TONNAGE_LENGTHS
+        or length not in LENGTHS[kind]
+        or any(height not in HEIGHTS[kind] for height in heights)
+        or any(breadth not in BREADTHS[kind] for breadth in breadths)
+    )
+
+
+def heights_asked(kind: int, tonnage_length: int, length: int) -> int:
+    """'One station more than parts', with one depth or height each; an undivided H or R has one height."""
+    return parts(kind, tonnage_length, length) + 1
+
+
+def breadths_asked(kind: int, heights: Sequence[int]) -> int:
+    """For a U m+1 breadths a station, for B and S one a station, for H and R one; the heights are as many as asked."""
+    return len(heights) * (parts_of_depth(middle_depth(heights)) + 1) if kind == U else len(heights)
+
+
+def wrong_number(kind: int, tonnage_length: int, length: int, heights: Sequence[int], breadths: Sequence[int]) -> bool:
+    """3: 'stations, depths, heights or breadths not the number the rules ask', of a known kind."""
+    return len(heights) != heights_asked(kind, tonnage_length, length) or len(breadths) != breadths_asked(kind, heights)
+
+
+def measure(
+    kind: int, tonnage_length: int, length: int, heights: Sequence[int], breadths: Sequence[int]
+) -> tuple[int, int]:
+    """'The lowest number that applies is given': 0, 2 or 3, and the tonnage, which is 0 where the space is refused."""
+    if out_of_range(kind, tonnage_length, length, heights, breadths):
+        return OUT_OF_RANGE, 0
+    if wrong_number(kind, tonnage_length, length, heights, breadths):
+        return WRONG_NUMBER, 0
+    return ACCEPTED, tonnage(volume(kind, length, heights, breadths))
+
+
+# Gross
+
+def hatchway_allowance(g: int) -> int:
+    """'The hatchway allowance is G/200, nearest, taken without the hatchways.'"""
+    return nearest(g * HATCHWAY_SHARE)
+
+
+def hatchway_excess(g: int, hatchways: int) -> int:
+    """'The excess is the sum of all H less the allowance, or 0.'"""
+    return max(hatchways - hatchway_allowance(g), 0)
+
+
+def ballast_over(ballast: int, gross: int) -> bool:
+    """'If standing 2 adds up to more than 30% of it', compared exactly; gross has only standing 1 taken off."""
+    return ballast > BALLAST_SHARE * gross

@@ -1,0 +1,598 @@
+"""Tests of the second program: the paper's figures, the readings, properties, and what the script visits."""
+
+import io
+import unittest
+from contextlib import redirect_stderr, redirect_stdout
+from fractions import Fraction
+from math import floor
+from random import Random
+from unittest import mock
+
+from reference import figures, measure as m
+from reference.figures import Space, uniform
+from reference.measure import B, H, R, S, U
+
+
+class FiguresOfThePaper(unittest.TestCase):
+    """'Figures to meet' and 'Errors a good surveyor has made', as far as they speak of one space or of gross."""
+
+    def test_lengths_by_the_table(self) -> None:
+        for length, parts, third in ((5000, 6, 2778), (5001, 8, 2084), (25000, 14, 5952), (25001, 16, 5209)):
+            self.assertEqual(m.parts_by_table(length), parts)
+            self.assertEqual(m.third_of_length(length, parts), third)
+            self.assertEqual(m.division(U, length, length), (parts, third))
+
+    def test_every_class_of_the_table(self) -> None:
+        edges = ((5000, 6, 8), (10000, 8, 10), (15000, 10, 12), (20000, 12, 14), (25000, 14, 16))
+        for length, parts, next_parts in edges:
+            self.assertEqual((m.parts_by_table(length), m.parts_by_table(length + 1)), (parts, next_parts))
+
+    def test_step_parts(self) -> None:
+        for length, parts, third in ((2000, 2, 3333), (2001, 4, 1668), (3999, 4, 3333), (4000, 6, 2222)):
+            self.assertEqual(m.parts_of_step_part(length), parts)
+            self.assertEqual(m.third_of_length(length, parts), third)
+            self.assertEqual(m.division(U, 9000, length), (parts, third))
+
+    def test_2001_is_a_half(self) -> None:
+        self.assertEqual(Fraction(10 * 2001, 3 * 4), Fraction(3335, 2))
+
+    def test_middle_depth(self) -> None:
+        for depth, parts, third in ((1600, 4, 133), (1601, 6, 89)):
+            self.assertEqual(m.parts_of_depth(depth), parts)
+            self.assertEqual(m.third_of_depth(depth, parts), third)
+
+    def test_under_deck(self) -> None:
+        self.assertEqual(m.measure(*uniform(U, 4800, 4800, 1200, 2000)), (0, 11521))
+
+    def test_between_deck(self) -> None:
+        self.assertEqual(m.measure(*uniform(B, 4800, 4800, 700, 2000)), (0, 6721))
+
+    def test_tie(self) -> None:
+        self.assertEqual(m.parts_of_superstructure(4500, 2000), 4)
+        self.assertTrue(figures.is_tie(4500, 2000))
+
+    def test_superstructure(self) -> None:
+        self.assertEqual(m.parts_of_superstructure(4800, 1600), 2)
+        self.assertEqual(m.measure(S, 4800, 1600, [800] * 3, [1000] * 3), (0, 1280))
+
+    def test_long_between_deck(self) -> None:
+        self.assertEqual(m.division(B, 20000, 150000), (12, 41667))
+        self.assertEqual(m.measure(B, 20000, 150000, [20000] * 13, [30000] * 13), (0, 90000720))
+
+    def test_excess(self) -> None:
+        self.assertEqual((m.hatchway_excess(20000, 100), m.hatchway_excess(20000, 101)), (0, 1))
+
+    def test_ballast(self) -> None:
+        self.assertEqual((m.ballast_over(300, 1000), m.ballast_over(301, 1000)), (False, True))
+
+    def whole_sheet(self) -> tuple[int, int, int, int, int]:
+        """The tonnages of the whole sheet's five spaces."""
+        spaces = (
+            uniform(U, 4800, 4800, 1200, 2000), uniform(S, 4800, 1600, 800, 1000), uniform(R, 4800, 1000, 400, 1000),
+            uniform(R, 4800, 800, 800, 500), uniform(H, 4800, 500, 500, 400),
+        )
+        return tuple(m.measure(*space)[1] for space in spaces)
+
+    def test_whole_sheet(self) -> None:
+        under_deck, superstructure, exempt, deducted, hatchway = self.whole_sheet()
+        self.assertEqual((under_deck, superstructure, exempt, deducted, hatchway), (11521, 1280, 400, 320, 100))
+        g = under_deck + superstructure - exempt
+        gross = g + m.hatchway_excess(g, hatchway)
+        self.assertEqual((gross, gross - deducted), (12439, 12119))
+
+    def test_error_of_the_box(self) -> None:
+        """115.20 is true of the box, but the third interval is 2.667 ft."""
+        self.assertEqual(m.tonnage(m.feet(4800) * m.feet(1200) * m.feet(2000)), 11520)
+        self.assertEqual(m.third_of_length(4800, 6), 2667)
+        self.assertEqual(m.tonnage(18 * Fraction(2667, 1000) * 12 * 20), 11521)
+        self.assertEqual(m.measure(*uniform(U, 4800, 4800, 1200, 2000))[1], 11521)
+
+    def test_error_of_the_half_percent(self) -> None:
+        """Half a percent of a gross that already has the hatchways in it is another one."""
+        under_deck, superstructure, exempt, _, hatchway = self.whole_sheet()
+        g = under_deck + superstructure - exempt
+        self.assertEqual((m.hatchway_allowance(g), m.hatchway_allowance(g + hatchway)), (62, 63))
+
+
+class Readings(unittest.TestCase):
+    """How the open points of the paper are read."""
+
+    def test_every_measure_is_judged(self) -> None:
+        """2 comes before 3 even where only a surplus measure is out of range."""
+        for kind, least_height, least_breadth in ((U, 0, 0), (B, 0, 0), (S, 0, 0), (H, 1, 1), (R, 1, 1)):
+            space = uniform(kind, 4800, 4800, 500, 500)
+            for heights, breadths, number in (
+                ([*space.heights, 20000], space.breadths, 3), ([*space.heights, 20001], space.breadths, 2),
+                (space.heights, [*space.breadths, 30000], 3), (space.heights, [*space.breadths, 30001], 2),
+                ([20001], [], 2), ([], [30001], 2), ([], [], 3),
+                ([*space.heights, 0], space.breadths, 2 if least_height else 3),
+                (space.heights, [*space.breadths, 0], 2 if least_breadth else 3),
+            ):
+                self.assertEqual(m.measure(kind, 4800, 4800, heights, breadths), (number, 0))
+
+    def test_hatchways_and_rooms_have_greatest_measures(self) -> None:
+        for kind in (H, R):
+            self.assertEqual(m.measure(kind, 100, 150000, [20000], [30000]), (0, 90_000_000))
+            for length, height, breadth in (
+                (0, 1, 1), (1, 0, 1), (1, 1, 0), (150001, 1, 1), (1, 20001, 1), (1, 1, 30001)
+            ):
+                self.assertEqual(m.measure(kind, 100, length, [height], [breadth]), (2, 0))
+            self.assertEqual(m.measure(kind, 100, 1, [1], [1]), (0, 0))
+            self.assertEqual(m.measure(kind, 100, 1, [], [1]), (3, 0))
+            self.assertEqual(m.measure(kind, 100, 1, [1, 1], [1]), (3, 0))
+
+    def test_ends_of_the_ranges_of_lengths(self) -> None:
+        for kind, least in ((U, 100), (B, 100), (S, 1), (H, 1), (R, 1)):
+            for length, number in ((least - 1, 2), (least, 0), (150000, 0), (150001, 2)):
+                self.assertEqual(m.measure(*uniform(kind, 9000, length, 100, 100))[0], number)
+            for tonnage_length, number in ((99, 2), (100, 0), (150000, 0), (150001, 2)):
+                self.assertEqual(m.measure(*uniform(kind, tonnage_length, 9000, 100, 100))[0], number)
+
+    def test_unknown_kinds(self) -> None:
+        for kind in (0, 6, 255):
+            self.assertEqual(m.measure(kind, 4800, 4800, [], []), (2, 0))
+            self.assertEqual(m.division(kind, 4800, 4800), (0, 0))
+        self.assertEqual([m.parts(kind, 4800, 4800) for kind in (H, R)], [0, 0])
+
+    def test_longer_than_the_tonnage_length_is_a_step_part(self) -> None:
+        self.assertEqual(m.parts_of_under_deck(1500, 1600), 2)
+        self.assertEqual(m.parts_of_under_deck(1500, 2001), 4)
+        self.assertEqual(m.parts_of_under_deck(1500, 5001), 8)
+
+    def test_short_tonnage_length_uses_the_table(self) -> None:
+        for length in (100, 2000, 2001, 3999):
+            self.assertEqual(m.parts_of_under_deck(length, length), 6)
+            self.assertNotEqual(m.parts_of_under_deck(length + 1, length), 6)
+            self.assertEqual(m.measure(U, length, length, [100] * 3, [100] * 15), (3, 0))
+
+    def test_superstructure_as_long_as_the_tonnage_length(self) -> None:
+        for length in (100, 5000, 5001, 10000, 15000, 20000, 25000, 25001, 150000):
+            self.assertEqual(m.parts_of_superstructure(length, length), m.parts_by_table(length))
+
+    def test_differences_and_not_ratios(self) -> None:
+        """1000 and 500 against 750 are a tie only as differences."""
+        self.assertEqual(abs(Fraction(2000, 2) - 750), abs(Fraction(2000, 4) - 750))
+
+    def test_mean_over_all_stations(self) -> None:
+        self.assertEqual(m.volume_of_level(1500, [0, 900, 0], [1000] * 3), 15 * 10 * 3)
+        self.assertEqual(m.volume_of_level(1500, [900, 0, 900], [1000] * 3), 15 * 10 * 6)
+
+    def test_ballast_is_compared_exactly(self) -> None:
+        self.assertFalse(m.ballast_over(0, 0))
+        self.assertTrue(m.ballast_over(1, 0))
+        self.assertTrue(m.ballast_over(1, 3))
+        self.assertFalse(m.ballast_over(3, 11))
+        self.assertTrue(m.ballast_over(4, 11))
+
+    def test_order_of_stations(self) -> None:
+        """The tonnage is the same from aft."""
+        rng = Random(39)
+        for _ in range(50):
+            depths = [rng.randrange(1600) for _ in range(5)]
+            breadths = [rng.randrange(3000) for _ in range(25)]
+            rows = [breadths[place:place + 5] for place in (20, 15, 10, 5, 0)]
+            from_aft = m.measure(U, 9000, 3001, depths[::-1], [breadth for row in rows for breadth in row])
+            self.assertEqual(m.measure(U, 9000, 3001, depths, breadths), from_aft)
+            self.assertEqual(from_aft[0], 0)
+
+    def test_third_interval_of_depth_that_rounds_to_0(self) -> None:
+        self.assertEqual([m.third_of_depth(depth, 4) for depth in (0, 1, 5, 6, 17, 18)], [0, 0, 0, 1, 1, 2])
+        self.assertEqual([m.third_of_depth(depth, 6) for depth in (0, 1, 8, 9, 26, 27)], [0, 0, 0, 1, 1, 2])
+        self.assertEqual(m.measure(*uniform(U, 9000, 2000, 5, 30000)), (0, 0))
+
+    def test_the_middle_station_alone_fixes_m(self) -> None:
+        self.assertEqual(m.measure(U, 9000, 2000, [1700, 1600, 1700], [10] * 15)[0], 0)
+        self.assertEqual(m.measure(U, 9000, 2000, [1600, 1601, 1600], [10] * 21)[0], 0)
+        self.assertEqual(m.measure(U, 9000, 2000, [1600, 1601, 1600], [10] * 15)[0], 3)
+        self.assertEqual(m.middle_depth([1, 2, 3, 4, 5, 6, 7]), 4)
+
+    def test_a_station_of_depth_0_has_its_breadths(self) -> None:
+        self.assertEqual(m.measure(U, 9000, 2000, [0, 1200, 0], [10] * 15)[0], 0)
+        self.assertEqual(m.measure(U, 9000, 2000, [0, 1200, 0], [10] * 5)[0], 3)
+
+    def test_end_sections_count_as_entered(self) -> None:
+        whole = m.volume_of_under_deck(1500, [1200] * 3, [1000] * 15)
+        without_ends = m.volume_of_under_deck(1500, [1200] * 3, [0] * 5 + [1000] * 5 + [0] * 5)
+        self.assertEqual((whole, without_ends), (1800, 1200))
+
+    def test_breadths_go_station_by_station(self) -> None:
+        """The second station's first breadth is the sixth of the list."""
+        breadths = [0] * 15
+        breadths[5] = 1000
+        self.assertEqual(m.volume_of_under_deck(1500, [1200] * 3, breadths), Fraction(25, 10) * 4 * 1 * 10)
+
+    def test_no_gross_no_allowance(self) -> None:
+        self.assertEqual((m.hatchway_allowance(0), m.hatchway_excess(0, 100)), (0, 100))
+
+    def test_a_between_deck_may_be_longer_than_the_tonnage_length(self) -> None:
+        self.assertEqual(m.measure(*uniform(B, 4800, 12000, 700, 2000))[0], 0)
+        self.assertEqual(m.parts(B, 4800, 12000), 6)
+
+
+class Properties(unittest.TestCase):
+    """What follows from the rules."""
+
+    def test_nearest_is_within_a_half_and_a_half_goes_up(self) -> None:
+        for denominator in range(1, 25):
+            for numerator in range(4 * denominator + 1):
+                x = Fraction(numerator, denominator)
+                self.assertTrue(-Fraction(1, 2) < m.nearest(x) - x <= Fraction(1, 2))
+        self.assertEqual([m.nearest(Fraction(x, 2)) for x in range(6)], [0, 1, 1, 2, 2, 3])
+
+    def test_multipliers(self) -> None:
+        self.assertEqual(m.multipliers(3), [1, 4, 1])
+        self.assertEqual(m.multipliers(5), [1, 4, 2, 4, 1])
+        self.assertEqual(m.multipliers(7), [1, 4, 2, 4, 2, 4, 1])
+        for parts in range(2, 17, 2):
+            self.assertEqual(sum(m.multipliers(parts + 1)), 3 * parts)
+
+    def test_thirds_as_the_paper_writes_them(self) -> None:
+        """10L/(3n) and D/(3m), in whole numbers with a half going up."""
+        for length in range(0, 150001, 37):
+            for parts in range(2, 17, 2):
+                self.assertEqual(m.third_of_length(length, parts), (20 * length + 3 * parts) // (6 * parts))
+        for depth in range(0, 20001, 7):
+            for parts in (4, 6):
+                self.assertEqual(m.third_of_depth(depth, parts), (2 * depth + 3 * parts) // (6 * parts))
+
+    def test_superstructure_by_brute_force(self) -> None:
+        """No even number from 2 to 16 has a nearer interval, and no greater one an interval as near."""
+        rng = Random(113)
+        pairs = [(rng.randint(100, 30000), rng.randint(1, 40000)) for _ in range(1500)]
+        pairs += [(one, other) for one in figures.EDGE_LENGTHS[3:-1] for other in figures.EDGE_LENGTHS[1:-1]]
+        for tonnage_length, length in pairs:
+            number, chosen = m.parts_by_table(tonnage_length), m.parts_of_superstructure(tonnage_length, length)
+            self.assertIn(chosen, (2, 4, 6, 8, 10, 12, 14, 16))
+            for other in (2, 4, 6, 8, 10, 12, 14, 16):
+                # |L/n - T/N| for both, times the number N and both denominators
+                nearness = abs(length * number - tonnage_length * chosen) * other
+                of_other = abs(length * number - tonnage_length * other) * chosen
+                self.assertTrue(nearness < of_other or (nearness == of_other and chosen >= other))
+
+    def test_ties_are_of_two_neighbours(self) -> None:
+        for tonnage_length in range(100, 30000, 61):
+            for lesser in range(2, 15, 2):
+                length = figures.length_of_tie(tonnage_length, lesser)
+                if length is not None:
+                    self.assertTrue(figures.is_tie(tonnage_length, length))
+                    self.assertEqual(m.parts_of_superstructure(tonnage_length, length), lesser + 2)
+
+    def test_greatest_measures_stay_below_100000000(self) -> None:
+        greatest = 0
+        for tonnage_length in (100, 5000, 10000, 15000, 20000, 25000, 149999, 150000):
+            for length in range(149900, 150001):
+                for parts in {m.parts(kind, tonnage_length, length) for kind in (U, B, S)}:
+                    third = Fraction(m.third_of_length(length, parts), 1000)
+                    # 12 times the third of a depth of 200 ft in four parts is more than the height itself
+                    greatest = max(greatest, m.tonnage(3 * parts * third * 300 * 12 * Fraction(1667, 100)))
+        self.assertLess(greatest, 100_000_000)
+        for kind in m.KINDS:
+            for tonnage_length in (20000, 150000):
+                number, tonnage = m.measure(*uniform(kind, tonnage_length, 150000, 20000, 30000))
+                self.assertEqual(number, 0)
+                self.assertLess(tonnage, 100_000_000)
+
+    def test_boxes_with_exact_thirds(self) -> None:
+        """Where no third interval is rounded, U, B and S of one height and breadth are boxes."""
+        for length, height, breadth in ((1800, 1200, 777), (3600, 1600 - 16, 1000), (9600, 1800, 25), (28800, 3600, 9)):
+            box = m.volume_of_box(length, height, breadth)
+            for kind, tonnage_length in ((U, 28801), (U, length), (B, length), (S, length)):
+                space = uniform(kind, tonnage_length, length, height, breadth)
+                self.assertEqual(m.volume(kind, *space[2:]), box)
+
+    def test_tonnage_is_rounded_once(self) -> None:
+        """Each area or a tonnage rounded on the way would be another answer."""
+        self.assertEqual(m.measure(S, 4800, 1500, [10, 10, 10], [100, 100, 100]), (0, 2))  # 1.5 cubic feet
+        self.assertEqual(m.measure(S, 4800, 1500, [10, 10, 9], [100, 100, 100]), (0, 1))
+        self.assertEqual(m.measure(H, 4800, 100, [50], [100]), (0, 1))
+        self.assertEqual(m.measure(H, 4800, 100, [49], [100]), (0, 0))
+
+    def test_allowance_and_ballast_in_whole_numbers(self) -> None:
+        for g in [*range(1000), 10**18 - 1, 10**18 - 100]:
+            self.assertEqual(m.hatchway_allowance(g), (g + 100) // 200)
+        for gross in [*range(60), 10**18 - 1]:
+            for ballast in (floor(gross * Fraction(3, 10)) + by for by in (-1, 0, 1)):
+                self.assertEqual(m.ballast_over(ballast, gross), 10 * ballast > 3 * gross)
+
+
+class Protocol(unittest.TestCase):
+    """The lines and their answers."""
+
+    def test_answers(self) -> None:
+        self.assertEqual(figures.answer("space 3 4800 1600 3 800 800 800 3 1000 1000 1000"), "0 1280 2 2667")
+        self.assertEqual(figures.answer("space 3 4800 1600 0 0"), "3 0 2 2667")
+        self.assertEqual(figures.answer("space 255 4800 1600 0 0"), "2 0 0 0")
+        self.assertEqual(figures.answer("space 4 4800 500 1 500 1 400"), "0 100 0 0")
+        self.assertEqual(figures.answer("hatchways 20000 101"), "100 1")
+        self.assertEqual(figures.answer("ballast 301 1000"), "1")
+        self.assertEqual(figures.answer("ballast 300 1000"), "0")
+
+    def test_lines_without_an_answer(self) -> None:
+        self.assertIsNone(figures.answer(""))
+        self.assertIsNone(figures.answer("# space"))
+        self.assertEqual(figures.answers("# one\n\nballast 1 1\nballast 0 1\n"), "1\n0\n")
+
+    def test_lines_outside_the_protocol(self) -> None:
+        for line in (
+            "spaces 1", "space", "space 3 4800 1600", "space 3 4800 1600 0", "space 3 4800 1600 0 1",
+            "space 3 4800 1600 0 0 0", "space 256 4800 1600 0 0", "space 3 4294967296 1600 0 0", "space 3 -1 1600 0 0",
+            "space 3  4800 1600 0 0", "space 3 4800 1600 33" + " 1" * 33 + " 0", "space 3 4800 1600 0 161" + " 1" * 161,
+            "ballast 1", "ballast 1 2 3", "ballast 1 1000000000000000000", "hatchways 1_0 1", " ballast 1 1",
+            "ballast 1 1 ", "ballast 1 1\r",
+        ):
+            with self.assertRaises(ValueError, msg=line):
+                figures.answer(line)
+
+    def test_a_line_hands_in_its_space(self) -> None:
+        space = Space(1, 2, 3, [4, 5], [6, 7, 8])
+        self.assertEqual(space.line(), "space 1 2 3 2 4 5 3 6 7 8")
+        self.assertEqual(figures.space_of(space.line().split(" ")[1:]), space)
+
+    def run_main(self, arguments: list[str], text: str = "") -> tuple[int, str]:
+        """The exit status and what is printed."""
+        given = mock.Mock(buffer=io.BytesIO(text.encode("ascii")))
+        with mock.patch("sys.argv", ["figures", *arguments]), mock.patch("sys.stdin", given):
+            with redirect_stdout(io.StringIO()) as printed, redirect_stderr(io.StringIO()):
+                return figures.main(), printed.getvalue()
+
+    def test_command_line(self) -> None:
+        self.assertEqual(self.run_main(["answers"], "# one\nballast 1 1\n"), (0, "1\n"))
+        self.assertEqual(self.run_main(["script"]), (0, figures.script()))
+        self.assertEqual(self.run_main([]), (2, ""))
+
+
+class Script(unittest.TestCase):
+    """The generator hits each edge it promises."""
+
+    @classmethod
+    def setUpClass(cls) -> None:
+        cls.text = figures.script()
+        lines = [line for line in cls.text.split("\n") if figures.answer(line) is not None]
+        cls.answered = list(zip(lines, figures.answers(cls.text).split("\n")))
+        cls.spaces = [
+            (figures.space_of(line.split(" ")[1:]), *map(int, given.split(" ")))
+            for line, given in cls.answered if line.startswith("space ")
+        ]
+        cls.accepted = [(space, tonnage, parts) for space, number, tonnage, parts, _ in cls.spaces if number == 0]
+
+    def amounts(self, first: str) -> list[tuple[int, int]]:
+        """The amounts of all `hatchways` or all `ballast` lines."""
+        found = (line.split(" ") for line, _ in self.answered)
+        return [(int(words[1]), int(words[2])) for words in found if words[0] == first]
+
+    def test_form(self) -> None:
+        self.assertTrue(self.text.isascii())
+        self.assertTrue(self.text.endswith("\n"))
+        self.assertTrue(self.text.startswith("#"))
+        self.assertLessEqual(len(self.text), 900_000)
+        self.assertGreaterEqual(len(self.answered), 2500)
+        self.assertNotIn("\r", self.text)
+
+    def test_reproducible(self) -> None:
+        self.assertEqual(figures.script(), self.text)
+
+    def test_begins_with_the_figures_of_the_paper(self) -> None:
+        self.assertEqual([given for _, given in self.answered[:11]], [
+            "0 90000720 12 41667", "0 11521 6 2667", "0 6721 6 2667", "0 1280 2 2667", "0 400 0 0", "0 320 0 0",
+            "0 100 0 0", "100 0", "100 1", "0", "1",
+        ])
+
+    def test_every_number_of_answer_for_every_kind(self) -> None:
+        for kind in m.KINDS:
+            self.assertEqual({number for space, number, *_ in self.spaces if space.kind == kind}, {0, 2, 3})
+        for kind in (0, 6, 255):
+            self.assertEqual({tuple(given) for space, *given in self.spaces if space.kind == kind}, {(2, 0, 0, 0)})
+
+    def test_every_number_of_parts(self) -> None:
+        found = {(space.kind, parts) for space, _, parts in self.accepted}
+        for kind, numbers in ((U, range(2, 17, 2)), (B, range(6, 17, 2)), (S, range(2, 17, 2))):
+            self.assertEqual({parts for of, parts in found if of == kind}, set(numbers))
+        depths = {
+            (parts, m.parts_of_depth(m.middle_depth(space.heights)))
+            for space, _, parts in self.accepted if space.kind == U
+        }
+        self.assertEqual(depths, {(parts, of_depth) for parts in range(2, 17, 2) for of_depth in (4, 6)})
+
+    def test_step_parts(self) -> None:
+        """Two, four and six parts of a step part, each with four and with six depth parts."""
+        found = {
+            (parts, m.parts_of_depth(m.middle_depth(space.heights)))
+            for space, _, parts in self.accepted if space.kind == U and space.length != space.tonnage_length
+        }
+        self.assertLessEqual({(parts, of_depth) for parts in (2, 4, 6) for of_depth in (4, 6)}, found)
+
+    def test_edges_of_lengths(self) -> None:
+        edges = {
+            0, 1, 99, 100, 101, 2000, 2001, 3999, 4000, 4001, 5000, 5001, 10000, 10001, 15000, 15001, 20000, 20001,
+            25000, 25001, 149999, 150000, 150001,
+        }
+        for kind in m.KINDS:
+            self.assertLessEqual(edges, {space.tonnage_length for space, *_ in self.spaces if space.kind == kind})
+            self.assertLessEqual(edges, {space.length for space, *_ in self.spaces if space.kind == kind})
+            inside = {edge for edge in edges if edge in m.LENGTHS[kind]}
+            self.assertLessEqual(inside, {space.length for space, *_ in self.accepted if space.kind == kind})
+
+    def test_under_deck_against_the_tonnage_length(self) -> None:
+        """Equal, shorter and longer, by one too, under and over 40 ft."""
+        found = {
+            (space.length >= 4000, space.length - space.tonnage_length)
+            for space, *_ in self.accepted if space.kind == U
+        }
+        bare = {
+            (space.length >= 4000, space.length - space.tonnage_length)
+            for space, number, *_ in self.spaces if space.kind == U and number == 3
+        }
+        for over in (False, True):
+            signs = {(by > 0) - (by < 0) for of, by in found if of == over}
+            self.assertEqual(signs, {-1, 0, 1})
+            self.assertLessEqual({(over, by) for by in (-1, 0, 1)}, found | bare)
+
+    def test_middle_depths(self) -> None:
+        """16 ft and a hundredth more, with the other stations deeper and shallower."""
+        for middle in (1600, 1601):
+            others = [
+                [depth for depth in space.heights if depth != middle]
+                for space, *_ in self.accepted if space.kind == U and m.middle_depth(space.heights) == middle
+            ]
+            self.assertTrue(any(depths and min(depths) > 1601 for depths in others))
+            self.assertTrue(any(depths and max(depths) < 1600 for depths in others))
+
+    def test_halves_of_third_intervals_of_length(self) -> None:
+        halves = {
+            (space.kind, parts) for space, _, parts in self.accepted
+            if parts and figures.is_half(Fraction(10 * space.length, 3 * parts))
+        }
+        wanted = {(kind, parts) for kind in (U, S) for parts in (4, 8, 12, 16)} | {(B, 8), (B, 12), (B, 16)}
+        self.assertLessEqual(wanted, halves)
+
+    def test_halves_exist_only_for_these_parts(self) -> None:
+        halves = {
+            parts for parts in range(2, 17, 2) for length in range(1, 1000)
+            if figures.is_half(Fraction(10 * length, 3 * parts))
+        }
+        self.assertEqual(halves, {4, 8, 12, 16})
+
+    def test_halves_of_third_intervals_of_depth(self) -> None:
+        found = set()
+        for space, *_ in self.accepted:
+            if space.kind == U:
+                parts = m.parts_of_depth(m.middle_depth(space.heights))
+                found |= {(parts, depth) for depth in space.heights if figures.is_half(Fraction(depth, 3 * parts))}
+        self.assertLessEqual({(4, 6), (4, 18), (4, 1590), (6, 9), (6, 27), (6, 1611)}, found)
+
+    def test_halves_of_tonnage(self) -> None:
+        counts = {kind: 0 for kind in m.KINDS}
+        for space, tonnage, _ in self.accepted:
+            volume = m.volume(space.kind, *space[2:])
+            if figures.is_half(volume):
+                counts[space.kind] += 1
+                self.assertEqual(tonnage, floor(volume) + 1)
+        for kind, count in counts.items():
+            self.assertGreaterEqual(count, 10, msg=f"kind {kind}")
+
+    def test_ties(self) -> None:
+        """At least 20 ties: of every pair of neighbours, in every class of the table; and pairs one off a tie."""
+        pairs = {(space.tonnage_length, space.length) for space, number, *_ in self.spaces if space.kind == S}
+        tied = {pair for pair in pairs if min(pair) >= 1 and figures.is_tie(*pair)}
+        self.assertGreaterEqual(len(tied), 20)
+        self.assertEqual(
+            {(m.parts_by_table(pair[0]), m.parts_of_superstructure(*pair)) for pair in tied},
+            {(number, greater) for number in range(6, 17, 2) for greater in range(4, 17, 2)},
+        )
+        beside = [pair for pair in tied if (pair[0], pair[1] + 1) in pairs and (pair[0], pair[1] - 1) in pairs]
+        self.assertGreaterEqual(len(beside), 20)
+        self.assertTrue(any((one + 1, other) in pairs and (one - 1, other) in pairs for one, other in tied))
+
+    def test_zeros(self) -> None:
+        for kind in (U, B, S):
+            of_kind = [space for space, *_ in self.accepted if space.kind == kind]
+            for values in ([space.heights for space in of_kind], [space.breadths for space in of_kind]):
+                self.assertTrue(any(not any(one) for one in values))
+                self.assertTrue(any(any(one) and 0 in one for one in values))
+
+    def test_greatest_measures(self) -> None:
+        for kind, numbers in ((U, range(2, 17, 2)), (B, range(6, 17, 2)), (S, range(2, 17, 2)), (H, [0]), (R, [0])):
+            found = {
+                parts for space, _, parts in self.accepted
+                if space.kind == kind and set(space.heights) == {20000} and set(space.breadths) == {30000}
+            }
+            self.assertEqual(found, set(numbers))
+        self.assertLess(max(tonnage for _, tonnage, _ in self.accepted), 100_000_000)
+        self.assertGreaterEqual(max(tonnage for _, tonnage, _ in self.accepted), 90_000_720)
+
+    def test_wrong_numbers(self) -> None:
+        """Heights one too few, one too many and none; breadths likewise, where the heights are as many as asked."""
+        for kind in m.KINDS:
+            refused = [space for space, number, *_ in self.spaces if space.kind == kind and number == 3]
+            heights_off = {len(space.heights) - m.heights_asked(*space[:3]) for space in refused}
+            right = [space for space in refused if len(space.heights) == m.heights_asked(*space[:3])]
+            breadths_off = {len(space.breadths) - m.breadths_asked(kind, space.heights) for space in right}
+            self.assertLessEqual({-1, 1}, heights_off)
+            self.assertLessEqual({-1, 1}, breadths_off)
+            self.assertTrue(any(not space.heights and space.breadths for space in refused))
+            self.assertTrue(any(not space.breadths for space in right))
+
+    def test_hatchways_and_rooms_without_and_with_two_measures(self) -> None:
+        for kind in (H, R):
+            counts = {
+                (len(space.heights), len(space.breadths))
+                for space, number, *_ in self.spaces if space.kind == kind and number == 3
+            }
+            self.assertLessEqual({(0, 0), (0, 1), (1, 0), (2, 1), (1, 2), (2, 2)}, counts)
+
+    def test_one_measure_out_of_range(self) -> None:
+        """By one, at the first, the middle and the last place, the number of measures being right."""
+        for kind in m.KINDS:
+            found = set()
+            for space, number, *_ in self.spaces:
+                if space.kind != kind or number != 2 or m.wrong_number(*space):
+                    continue
+                if space.tonnage_length not in m.TONNAGE_LENGTHS or space.length not in m.LENGTHS[kind]:
+                    continue
+                high = [("height", place) for place, one in enumerate(space.heights) if one == 20001]
+                wide = [("breadth", place) for place, one in enumerate(space.breadths) if one == 30001]
+                if len(high + wide) == 1:
+                    of_list, place = (high + wide)[0]
+                    count = len(space.heights if of_list == "height" else space.breadths)
+                    found |= {(of_list, name) for name, at in (
+                        ("first", 0), ("middle", count // 2), ("last", count - 1)
+                    ) if at == place}
+            self.assertEqual(
+                found, {(of_list, name) for of_list in ("height", "breadth") for name in ("first", "middle", "last")}
+            )
+
+    def test_least_measures_of_hatchways_and_rooms(self) -> None:
+        for kind in (H, R):
+            refused = [space for space, number, *_ in self.spaces if space.kind == kind and number == 2]
+            self.assertTrue(any(list(space.heights) == [0] and 0 not in space.breadths for space in refused))
+            self.assertTrue(any(list(space.breadths) == [0] and 0 not in space.heights for space in refused))
+            self.assertTrue(any(len(space.heights) == 2 and space.heights[1] == 0 for space in refused))
+
+    def test_surplus_measure_out_of_range(self) -> None:
+        """2 before 3: all as asked but for one surplus measure behind the others, and that one out of range."""
+        for kind in m.KINDS:
+            found = set()
+            for space, number, *_ in self.spaces:
+                if space.kind == kind and number == 2:
+                    without_height = space._replace(heights=space.heights[:-1])
+                    without_breadth = space._replace(breadths=space.breadths[:-1])
+                    if space.heights and space.heights[-1] == 20001 and m.measure(*without_height)[0] == 0:
+                        found.add("height")
+                    if space.breadths and space.breadths[-1] == 30001 and m.measure(*without_breadth)[0] == 0:
+                        found.add("breadth")
+            self.assertEqual(found, {"height", "breadth"}, msg=f"kind {kind}")
+
+    def test_greatest_numbers_of_the_protocol(self) -> None:
+        greatest = 4_294_967_295
+        for kind in m.KINDS:
+            of_kind = [space for space, *_ in self.spaces if space.kind == kind]
+            self.assertTrue(any(space.tonnage_length == greatest for space in of_kind))
+            self.assertTrue(any(space.length == greatest for space in of_kind))
+            self.assertTrue(any(greatest in space.heights for space in of_kind))
+            self.assertTrue(any(greatest in space.breadths for space in of_kind))
+        self.assertEqual(max(len(space.heights) for space, *_ in self.spaces), 32)
+        self.assertEqual(max(len(space.breadths) for space, *_ in self.spaces), 160)
+
+    def test_hatchways(self) -> None:
+        found = self.amounts("hatchways")
+        self.assertGreaterEqual(len(found), 200)
+        self.assertLessEqual({0, 99, 100, 101}, {g for g, _ in found})
+        for rest in (99, 100, 101):
+            self.assertGreaterEqual(len({g for g, _ in found if g % 200 == rest}), 6)
+        for by in (-1, 0, 1):
+            self.assertGreaterEqual(sum(total - m.hatchway_allowance(g) == by for g, total in found), 20)
+        self.assertIn((10**18 - 1, 10**18 - 1), found)
+
+    def test_ballast(self) -> None:
+        found = self.amounts("ballast")
+        self.assertGreaterEqual(len(found), 200)
+        self.assertIn((0, 0), found)
+        self.assertIn((1, 0), found)
+        self.assertIn((10**18 - 1, 10**18 - 1), found)
+        whole = [(ballast - gross * 3 // 10, gross) for ballast, gross in found if gross % 10 == 0 and gross > 0]
+        for by in (-1, 0, 1):
+            self.assertGreaterEqual(sum(one == by for one, _ in whole), 6)
+
+
+if __name__ == "__main__":
+    unittest.main()
