@@ -1,0 +1,26 @@
+# `make run` measures the example barge; `make test` proves and tests everything.
+KIT := rattle-kit-5b logic 064da1ca440f63e7
+
+.PHONY: test run stored kit
+
+test: kit
+	@rt fmt --check
+	@python3 tools/promises.py
+	@python3 -m unittest discover -q -s reference -t .
+	@python3 tools/stored.py --check
+	@rt ci
+	@python3 tools/edits.py
+
+# Proves the library and the program over it, then measures the spaces of the paper's whole sheet.
+run: kit
+	@rt check figures > target/run.log 2>&1 || { cat target/run.log; exit 1; }
+	@target/bin/figures < examples/barge.txt
+
+# Writes every stored input and expected output anew, from the second program.
+stored:
+	@python3 tools/stored.py
+
+kit:
+	@command -v rt > /dev/null || { echo "the Rattle kit is missing: no 'rt' on the path (proved with $(KIT))"; exit 1; }
+	@test "$$(rt version)" = "$(KIT)" || echo "note: this is $$(rt version); proved with $(KIT)"
+	@mkdir -p target
