@@ -1,0 +1,91 @@
+-- `enclosure::plain_below` meets its contract. The loop's invariant: those left are plain below where all are.
+use Prim.Native.Nat.{_≤_, _+_, _-_}
+use mathlib.Core.Path.{_≡_, refl, sym, ap, _∙_}
+use mathlib.Core.Bool.{Bool, not, _&&_}
+use mathlib.Core.List.{List}
+use lib.ListN.{length, take, drop, getD}
+use Rattle.spaces.specs.Space.{emptySpace}
+use Rattle.spaces.specs.Enclosure.{allPlain, belowOf, below}
+use Rattle.spaces.specs.declared.space.Space.{Space}
+use Rattle.spaces.proofs.laws.Row.{standing-step, standing-end}
+use Rattle.spaces.proofs.laws.Enclosure.{below-step}
+use borrow.Author.Needs.{needs}
+use native.Mathlib.Omega.{arith}
+use Rattle.spaces.proofs.enclosure.plain_below.Statement.{statement}
+use Rattle.spaces.proofs.enclosure.plain_below.Tie as tie
+
+abbrev Inv-loop : tie.InvT-loop
+Inv-loop count id spaces n i₀ i =
+    (i ≤ n) × (allPlain (belowOf id (take count spaces) (drop i (take count spaces))) ≡ allPlain (below id (take count spaces)))
+
+abbrev μ-loop : tie.MeasureT-loop
+μ-loop count id spaces n i₀ i = n - i
+
+used-requires : tie.Need-used-requires Inv-loop μ-loop
+used-requires c κs = search needs
+
+loop-holds : tie.Need-loop-holds Inv-loop μ-loop
+loop-holds c = (omega arith, refl)
+
+mul-y : tie.Need-mul-y Inv-loop μ-loop
+mul-y c = omega arith
+
+array-copy-out-y : tie.Need-array-copy-out-y Inv-loop μ-loop
+array-copy-out-y c = omega arith
+
+taken-under-requires : tie.Need-taken-under-requires Inv-loop μ-loop
+taken-under-requires c κs = search needs
+
+returns : tie.Need-returns Inv-loop μ-loop
+returns c =
+    let l = c .before .before .before .before in
+    let s = l .before .before in
+    let xs = take (s .args .count) (s .args .t1) in
+    let full : length (s .args .t1) ≡ 200 = search needs in
+    let y = getD (s .args .t1) (l .loop .i) emptySpace in
+    let rest = drop (l .loop .i + 1) xs in
+    let st = ap (λ (ys : List Space). allPlain (belowOf (s .args .id) xs ys)) (standing-step (s .args .t1) (s .args .count) full (l .loop .i) (omega arith)) ∙ below-step (s .args .id) xs y rest in
+    let e = ap (λ (t : Bool). not t && allPlain (belowOf (s .args .id) xs rest)) (sym (c .before .taken-under .ensures) ∙ c .if1 .taken) in
+    sym (sym (l .loop .inv .1) ∙ st ∙ e)
+
+add-i : tie.Need-add-i Inv-loop μ-loop
+add-i c = omega arith
+
+loop-less : tie.Need-loop-less Inv-loop μ-loop
+loop-less c = omega arith
+
+loop-again : tie.Need-loop-again Inv-loop μ-loop
+loop-again c =
+    let l = c .before .before .before .before in
+    let s = l .before .before in
+    let xs = take (s .args .count) (s .args .t1) in
+    let full : length (s .args .t1) ≡ 200 = search needs in
+    let y = getD (s .args .t1) (l .loop .i) emptySpace in
+    let rest = drop (l .loop .i + 1) xs in
+    let st = ap (λ (ys : List Space). allPlain (belowOf (s .args .id) xs ys)) (standing-step (s .args .t1) (s .args .count) full (l .loop .i) (omega arith)) ∙ below-step (s .args .id) xs y rest in
+    let e = ap (λ (t : Bool). not t && allPlain (belowOf (s .args .id) xs rest)) (sym (c .before .taken-under .ensures) ∙ c .if1 .left) in
+    (omega arith, sym (st ∙ e) ∙ l .loop .inv .1)
+
+returns-2 : tie.Need-returns-2 Inv-loop μ-loop
+returns-2 c =
+    let l = c .before in
+    let s = l .before .before in
+    let full : length (s .args .t1) ≡ 200 = search needs in
+    sym (ap (λ (ys : List Space). allPlain (belowOf (s .args .id) (take (s .args .count) (s .args .t1)) ys)) (standing-end (s .args .t1) (s .args .count) full (l .loop .i) (omega arith))) ∙ l .loop .inv .1
+
+pub plain-below-spec : {M : Type 1} → statement M
+plain-below-spec =
+    tie.close
+    (tie.spec
+    Inv-loop
+    μ-loop
+    used-requires
+    loop-holds
+    mul-y
+    array-copy-out-y
+    taken-under-requires
+    returns
+    add-i
+    loop-less
+    loop-again
+    returns-2)

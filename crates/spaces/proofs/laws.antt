@@ -1,0 +1,5 @@
+-- Laws of the definitions in specs/, that the functions' proofs and the floors above cite.
+pub mod Standing
+pub mod Row
+pub mod Found
+pub mod Enclosure

@@ -1,0 +1,56 @@
+// Gross and net ("Gross and net"), in hundredths of a ton.
+use crate::space::Space;
+use crate::sums::Amount;
+use crate::sums::sum;
+use measure::allowances::ballast_over;
+use measure::allowances::hatchway_excess;
+ghost use mathlib.Core.Path.{_≡_};
+ghost use Prim.Native.Nat.{_-_, _*_, _≤_, _^_};
+ghost use lib.ListN.{take};
+ghost use Rattle.measure.specs.Allowances.{hatchwayExcess};
+ghost use Rattle.spaces.specs.Gross.{grossOver, reckoned};
+
+// What a report works out: the lengths of all U, gross, net, and whether water ballast needs the mark 'justified'.
+pub struct Reckoning {
+    pub lengths: u64,
+    pub gross: u64,
+    pub net: u64,
+    pub unjustified: bool,
+}
+
+pub fn reckon(spaces: [Space; 200], count: usize) -> Reckoning
+    ensures { λ r. ⌜ r ≡ reckoned (take count spaces) ⌝ }
+{
+    let lengths = sum(spaces, count, Amount::Lengths);
+    let hull = sum(spaces, count, Amount::Hull);
+    let exempt = sum(spaces, count, Amount::Exempt);
+    let ballast = sum(spaces, count, Amount::Ballast);
+    let hatchways = sum(spaces, count, Amount::Hatchways);
+    let gross = gross_over(less(hull, exempt + ballast), hatchways);
+    let net = less(gross, sum(spaces, count, Amount::Deducted));
+    let unjustified = ballast_over(ballast, gross_over(less(hull, exempt), hatchways));
+    Reckoning {
+        lengths,
+        gross,
+        net,
+        unjustified,
+    }
+}
+
+// G and the excess of the hatchways over its half percent.
+fn gross_over(g: u64, hatchways: u64) -> u64
+    requires { ⌜ (g ≤ 200 * 2 ^ 32) × (hatchways ≤ 200 * 2 ^ 32) ⌝ }
+    ensures { λ r. ⌜ r ≡ grossOver g hatchways ⌝ }
+{
+    g + hatchway_excess(g, hatchways)
+}
+
+// A difference, or 0.
+fn less(a: u64, b: u64) -> u64
+    ensures { λ r. ⌜ r ≡ a - b ⌝ }
+{
+    if a <= b {
+        return 0;
+    }
+    a - b
+}

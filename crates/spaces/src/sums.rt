@@ -1,0 +1,86 @@
+// The sums that the paper takes over the standing spaces: one loop, and what a space adds to each.
+use crate::row::used;
+use crate::space::BETWEEN_DECK;
+use crate::space::HATCHWAY;
+use crate::space::ROOM;
+use crate::space::SUPERSTRUCTURE;
+use crate::space::Space;
+use crate::space::UNDER_DECK;
+ghost use mathlib.Core.Path.{_≡_};
+ghost use mathlib.Core.Bool.{_&&_};
+ghost use Prim.Native.Nat.{_*_, _≤_, _<_, _^_};
+ghost use lib.Dec.{eqb};
+ghost use lib.ListN.{take};
+ghost use Rattle.spaces.specs.Space.{isRoom, isHull};
+ghost use Rattle.spaces.specs.Row.{only as onlyOf, amountOf, sumOf};
+
+pub enum Amount {
+    // The tonnages of the rooms directly inside the space with an id, and their number.
+    Inside(u16),
+    Rooms(u16),
+    // The lengths of all U.
+    Lengths,
+    // T: the tonnages of all U, B and S. All H. Standing 1, 2 and 3.
+    Hull,
+    Hatchways,
+    Exempt,
+    Ballast,
+    Deducted,
+}
+
+fn only(test: bool, n: u32) -> u64
+    ensures { λ r. ⌜ (r ≡ onlyOf test n) × (r < 2 ^ 32) ⌝ }
+{
+    if test { n as u64 } else { 0 }
+}
+
+fn is_inside(x: Space, id: u16) -> bool
+    ensures { λ r. ⌜ r ≡ (isRoom x && eqb (x .within) id) ⌝ }
+{
+    if x.kind == ROOM {
+        return x.within == id;
+    }
+    false
+}
+
+fn is_hull(x: Space) -> bool
+    ensures { λ r. ⌜ r ≡ isHull x ⌝ }
+{
+    if x.kind == UNDER_DECK {
+        return true;
+    }
+    if x.kind == BETWEEN_DECK {
+        return true;
+    }
+    x.kind == SUPERSTRUCTURE
+}
+
+// What a space adds to a sum.
+fn share(which: Amount, x: Space) -> u64
+    ensures { λ r. ⌜ (r ≡ amountOf which x) × (r < 2 ^ 32) ⌝ }
+{
+    match which {
+        Amount::Inside(id) => only(is_inside(x, id), x.tonnage),
+        Amount::Rooms(id) => only(is_inside(x, id), 1),
+        Amount::Lengths => only(x.kind == UNDER_DECK, x.length),
+        Amount::Hull => only(is_hull(x), x.tonnage),
+        Amount::Hatchways => only(x.kind == HATCHWAY, x.tonnage),
+        Amount::Exempt => only(x.standing == 1, x.tonnage),
+        Amount::Ballast => only(x.standing == 2, x.tonnage),
+        Amount::Deducted => only(x.standing == 3, x.tonnage),
+    }
+}
+
+pub(crate) fn sum(spaces: [Space; 200], count: usize, which: Amount) -> u64
+    ensures { λ r. ⌜ (r ≡ sumOf which (take count spaces)) × (r ≤ 200 * 2 ^ 32) ⌝ }
+{
+    let n = used(count);
+    let mut total: u64 = 0;
+    let mut i = 0;
+    while i < n {
+        let x = spaces[i];
+        total += share(which, x);
+        i += 1;
+    }
+    total
+}

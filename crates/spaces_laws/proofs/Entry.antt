@@ -1,0 +1,112 @@
+-- An entry is accepted (none of 4 to 10 applies) exactly where the facts of `Accepted` hold. Stands on Refusals, Lists, Walk.
+use Prim.Native.Nat.{ℕ, _+_, _≤_, _<_}
+use mathlib.Core.Path.{_≡_, ap, _∙_}
+use mathlib.Core.Bool.{Bool, true, false, not, _&&_, _||_}
+use mathlib.Core.List.{List, [], _∷_}
+use mathlib.Core.Option.{none, some}
+use native.Mathlib.Omega.{arith}
+use borrow.Author.Tests.{ltb-false, leb-false, le-ltb, lt-leb, not-true, not-false}
+use lib.Dec.{ltb}
+use lib.ListN.{length}
+use Rattle.spaces.specs.declared.space.Space.{Space}
+use Rattle.spaces.specs.declared.sums.Amount.the-variants.{Inside, Lengths}
+use Rattle.spaces.specs.Space.{isUnderDeck, isHatchway, isRoom, isPlain, mayTake}
+use Rattle.spaces.specs.Row.{find, isSome, sumOf}
+use Rattle.spaces.specs.Enclosure.{enclosing, above, level, allPlain}
+use Rattle.spaces.specs.Rules.{idRefused, unhoused, inHatchway, misplaced, tooDeep, offTwice, passesEnclosing, overfull, noPlace, entryNumber}
+use Rattle.spaces_laws.proofs.Tests.{by-test, or-fails, or-fails-of, and-fails, and-fails-of}
+use Rattle.spaces_laws.proofs.Refusals.{none-applies, accepted-of-none}
+use Rattle.spaces_laws.proofs.Lists.{some-of, none-of}
+use Rattle.spaces_laws.proofs.Walk.{enclosing-of-other, enclosing-of-room}
+
+-- a room's enclosing space: it stands, and is no hatchway
+pub record Enclosed (xs : List Space) (x : Space) : Type 0 where
+  pub home : Space
+  pub home-stands : find (x .within) xs ≡ some home
+  pub no-hatchway : isHatchway home ≡ false
+
+-- what the numbers 4 to 10 leave of an entry
+pub record Accepted (L : ℕ) (xs : List Space) (x : Space) : Type 0 where
+  pub id-at-least : 1 ≤ x .id
+  pub id-at-most : x .id ≤ 9999
+  pub id-free : find (x .id) xs ≡ none
+  pub enclosed : isRoom x ≡ true → Enclosed xs x
+  pub may-take : mayTake (x .kind) (x .standing) ≡ true
+  pub level-at-most : level xs x ≤ 8
+  pub plain-above : isPlain x ≡ false → allPlain (above xs x) ≡ true
+  pub rooms-fit : (r : isRoom x ≡ true) → sumOf (Inside (x .within)) xs + x .tonnage ≤ enclosed r .home .tonnage
+  pub lengths-fit : isUnderDeck x ≡ true → sumOf Lengths xs + x .length ≤ L
+  pub place-left : length xs < 200
+
+-- the tests of `entryNumber`
+abbrev entryTests : ℕ → List Space → Space → List (Bool × ℕ)
+entryTests L xs x =
+    (idRefused xs x, 4)
+    ∷ (unhoused xs x, 5)
+    ∷ (misplaced xs x, 6)
+    ∷ (tooDeep xs x, 7)
+    ∷ (offTwice xs x, 8)
+    ∷ (overfull L xs x, 9)
+    ∷ (noPlace xs, 10)
+    ∷ []
+
+-- the tests that look at the enclosing space
+module _ (xs : List Space) (x : Space) where
+  enclosed-of : unhoused xs x ≡ false → inHatchway (enclosing xs x) ≡ false → isRoom x ≡ true → Enclosed xs x
+  enclosed-of stood dry r =
+      let s = some-of (find (x .within) xs) (not-false _ (and-fails _ _ stood r)) in
+      record { home = s .0; home-stands = s .1; no-hatchway = rw (enclosing-of-room xs x r, s .1) at dry }
+
+  module _ (enclosed : isRoom x ≡ true → Enclosed xs x) where
+    enclosing-is : (r : isRoom x ≡ true) → enclosing xs x ≡ some (enclosed r .home)
+    enclosing-is r = enclosing-of-room xs x r ∙ enclosed r .home-stands
+
+    rooms-fit-of : passesEnclosing xs x (enclosing xs x) ≡ false → (r : isRoom x ≡ true)
+        → sumOf (Inside (x .within)) xs + x .tonnage ≤ enclosed r .home .tonnage
+    rooms-fit-of e r = ltb-false _ _ (rw (enclosing-is r) at e)
+
+    housed : unhoused xs x ≡ false
+    housed = and-fails-of _ _ (λ r. rw (enclosed r .home-stands))
+
+    not-in-hatchway : inHatchway (enclosing xs x) ≡ false
+    not-in-hatchway =
+        by-test (isRoom x) (λ r. rw (enclosing-is r) (enclosed r .no-hatchway)) (λ r. rw (enclosing-of-other xs x r))
+
+    not-passed : ((r : isRoom x ≡ true) → sumOf (Inside (x .within)) xs + x .tonnage ≤ enclosed r .home .tonnage)
+        → passesEnclosing xs x (enclosing xs x) ≡ false
+    not-passed fit = by-test (isRoom x) (λ r. rw (enclosing-is r) (le-ltb _ _ (fit r))) (λ r. rw (enclosing-of-other xs x r))
+
+pub facts-of-entry : (L : ℕ) (xs : List Space) (x : Space) → entryNumber L xs x ≡ 0 → Accepted L xs x
+unfolding entryNumber
+facts-of-entry L xs x e =
+    let (id-free, (housed, (placed, (shallow, (once, (room-left, (place-left, _))))))) = none-applies (entryTests L xs x) (omega arith) e in
+    let ids = or-fails _ _ id-free in
+    let range = or-fails _ _ (ids .0) in
+    let takes = or-fails _ _ placed in
+    let fits = or-fails _ _ room-left in
+    let enclosed = enclosed-of xs x housed (takes .1) in
+    record {
+      id-at-least = ltb-false _ _ (range .0);
+      id-at-most = ltb-false _ _ (range .1);
+      id-free = none-of _ (ids .1);
+      enclosed = enclosed;
+      may-take = not-false _ (takes .0);
+      level-at-most = ltb-false _ _ shallow;
+      plain-above = λ p. not-false _ (and-fails _ _ once (ap not p));
+      rooms-fit = rooms-fit-of xs x enclosed (fits .0);
+      lengths-fit = λ u. ltb-false _ _ (and-fails _ _ (fits .1) u);
+      place-left = leb-false _ _ place-left;
+    }
+
+pub entry-of-facts : (L : ℕ) (xs : List Space) (x : Space) → Accepted L xs x → entryNumber L xs x ≡ 0
+unfolding entryNumber
+entry-of-facts L xs x a =
+    let range : (ltb (x .id) 1 || ltb 9999 (x .id)) ≡ false = or-fails-of _ _ (le-ltb _ _ (a .id-at-least)) (le-ltb _ _ (a .id-at-most)) in
+    let id-free : idRefused xs x ≡ false = or-fails-of _ _ range (ap isSome (a .id-free)) in
+    let placed : misplaced xs x ≡ false = or-fails-of _ _ (ap not (a .may-take)) (not-in-hatchway xs x (a .enclosed)) in
+    let shallow : tooDeep xs x ≡ false = le-ltb _ _ (a .level-at-most) in
+    let once : offTwice xs x ≡ false = and-fails-of _ _ (λ p. ap not (a .plain-above (not-true _ p))) in
+    let lengths : (isUnderDeck x && ltb L (sumOf Lengths xs + x .length)) ≡ false = and-fails-of _ _ (λ u. le-ltb _ _ (a .lengths-fit u)) in
+    let fits : overfull L xs x ≡ false = or-fails-of _ _ (not-passed xs x (a .enclosed) (a .rooms-fit)) lengths in
+    let place : noPlace xs ≡ false = lt-leb _ _ (a .place-left) in
+    accepted-of-none (entryTests L xs x) (id-free, (housed xs x (a .enclosed), (placed, (shallow, (once, (fits, (place, tt)))))))

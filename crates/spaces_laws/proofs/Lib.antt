@@ -1,0 +1,15 @@
+-- Whole sheets: what a valid sheet is like, what keeps it valid, and that no volume is taken off twice. Read from top to bottom.
+pub mod Tests
+pub mod Refusals
+pub mod Lists
+pub mod Walk
+pub mod Entry
+pub mod Valid
+pub mod Changes
+pub mod Withdraw
+pub mod Mark
+pub mod Places
+pub mod Order
+pub mod Standings
+pub mod Twice
+pub mod Report

@@ -1,0 +1,170 @@
+-- The chain upward ("Enclosure"): its equations, that it goes through standing spaces, that it is the same however the sheet goes on,
+-- and what `allPlain`, `among` and `below` say of members. Stands on Lists.
+use Prim.Native.Nat.{ℕ, zero, suc, _+_, _≤_, _<_}
+use mathlib.Core.Path.{_≡_, refl, sym, ap, _∙_, subst}
+use mathlib.Core.Bool.{true, false}
+use mathlib.Core.List.{List, [], _∷_, _++_, List·Memᴰ·head, List·Memᴰ·tail, List·Memᴰ·not-nil, List·Memᴰ·cases-cons, Memᴰ·cast}
+use mathlib.Core.Option.{none, some}
+use mathlib.Core.Logic.{⊎-elim, _↔_}
+use native.Mathlib.Omega.{arith}
+use borrow.Author.Tests.{eqb-true, eq-eqb}
+use lib.Dec.{eqb}
+use lib.ListN.{length}
+use Rattle.spaces.specs.declared.space.Space.{Space}
+use Rattle.spaces.specs.Space.{isRoom, isPlain}
+use Rattle.spaces.specs.Row.{find}
+use Rattle.spaces.specs.Enclosure.{enclosing, upward, above, level, allPlain, among, belowOf, below}
+use Rattle.spaces_laws.proofs.Tests.{by-test, by-option, not-both, none-not-some, and-holds, and-holds-of}
+use Rattle.spaces_laws.proofs.Lists.{_∈_, find-before, found-stands}
+
+-- "Only a room has an enclosing space"
+pub enclosing-of-other : (xs : List Space) (x : Space) → isRoom x ≡ false → enclosing xs x ≡ none
+enclosing-of-other xs x e = rw e
+
+pub enclosing-of-room : (xs : List Space) (x : Space) → isRoom x ≡ true → enclosing xs x ≡ find (x .within) xs
+enclosing-of-room xs x e = rw e
+
+pub enclosing-stands : (xs : List Space) (y : Space) {z : Space} → enclosing xs y ≡ some z → z ∈ xs
+enclosing-stands xs y {z} e =
+    by-test (isRoom y)
+    (λ r. found-stands (y .within) xs {z = z} (sym (enclosing-of-room xs y r) ∙ e) .0)
+    (λ r. none-not-some (enclosing-of-other xs y r) e)
+
+pub upward-some : (left : ℕ) (xs : List Space) (x : Space) {z : Space} → enclosing xs x ≡ some z → upward (suc left) xs x ≡ z ∷ upward left xs z
+upward-some left xs x e = rw e
+
+pub upward-none : (left : ℕ) (xs : List Space) (x : Space) → enclosing xs x ≡ none → upward (suc left) xs x ≡ []
+upward-none left xs x e = rw e
+
+pub upward-stands : (left : ℕ) (xs : List Space) (y z : Space) → z ∈ upward left xs y → z ∈ xs
+upward-stands zero xs y z m = absurd (List·Memᴰ·not-nil m)
+upward-stands (suc left) xs y z m =
+    by-option (enclosing xs y)
+    (λ e. absurd (List·Memᴰ·not-nil (subst (λ (l : List Space). z ∈ l) (upward-none left xs y e) m)))
+    (λ t e.
+    ⊎-elim (λ (q : z ≡ t). Memᴰ·cast q (enclosing-stands xs y e)) (λ (a : z ∈ upward left xs t). upward-stands left xs t z a)
+    (List·Memᴰ·cases-cons (subst (λ (l : List Space). z ∈ l) (upward-some left xs y e) m)))
+
+-- each room of a sheet has its enclosing space there
+abbrev pub Closed : List Space → Space → Type 0
+Closed xs y = isRoom y ≡ true → (z : Space) × (find (y .within) xs ≡ some z)
+
+-- then the walk is the same however the sheet goes on
+pub upward-append : (left : ℕ) (xs ys : List Space) → ((y : Space) → y ∈ xs → Closed xs y)
+    → (y : Space) → Closed xs y → upward left (xs ++ ys) y ≡ upward left xs y
+upward-append zero xs ys closed y h = refl
+upward-append (suc left) xs ys closed y h =
+    by-test (isRoom y)
+    (λ r.
+    let z = h r .0 in
+    let e = h r .1 in
+    upward-some left (xs ++ ys) y (enclosing-of-room (xs ++ ys) y r ∙ find-before (y .within) xs ys e)
+    ∙ ap (λ (l : List Space). z ∷ l) (upward-append left xs ys closed z (closed z (found-stands (y .within) xs e .0)))
+    ∙ sym (upward-some left xs y (enclosing-of-room xs y r ∙ e)))
+    (λ r.
+    upward-none left (xs ++ ys) y (enclosing-of-other (xs ++ ys) y r) ∙ sym (upward-none left xs y (enclosing-of-other xs y r)))
+
+-- a walk that ended with levels left is the same with one level more
+upward-ended : (left : ℕ) (xs : List Space) (x : Space) → length (upward left xs x) < left → upward (suc left) xs x ≡ upward left xs x
+upward-ended zero xs x h = absurd (omega arith)
+upward-ended (suc left) xs x h =
+    by-option (enclosing xs x)
+    (λ e. upward-none (suc left) xs x e ∙ sym (upward-none left xs x e))
+    (λ z e.
+    let l : length (z ∷ upward left xs z) < suc left = rw (upward-some left xs x e) at h in
+    upward-some (suc left) xs x e
+    ∙ ap (λ (l : List Space). z ∷ l) (upward-ended left xs z (omega arith))
+    ∙ sym (upward-some left xs x e))
+
+-- ---- anywhere above
+
+-- `Above xs y z`: z encloses y, or is above the space that encloses y
+pub data Above (xs : List Space) : Space → Space → Type 0 where
+  directly : {y z : Space} → enclosing xs y ≡ some z → Above xs y z
+  further : {y t z : Space} → enclosing xs y ≡ some t → Above xs t z → Above xs y z
+
+above-of-walked : (left : ℕ) (xs : List Space) (y z : Space) → z ∈ upward left xs y → Above xs y z
+above-of-walked zero xs y z m = absurd (List·Memᴰ·not-nil m)
+above-of-walked (suc left) xs y z m =
+    by-option (enclosing xs y)
+    (λ e. absurd (List·Memᴰ·not-nil (subst (λ (l : List Space). z ∈ l) (upward-none left xs y e) m)))
+    (λ t e.
+    ⊎-elim (λ (q : z ≡ t). subst (Above xs y) (sym q) (directly e)) (λ (a : z ∈ upward left xs t). further e (above-of-walked left xs t z a))
+    (List·Memᴰ·cases-cons (subst (λ (l : List Space). z ∈ l) (upward-some left xs y e) m)))
+
+-- a walk that ended with levels left has met all that are above
+walked-of-above : (left : ℕ) (xs : List Space) {y z : Space} → length (upward left xs y) < left → Above xs y z → z ∈ upward left xs y
+walked-of-above zero xs h a = absurd (omega arith)
+walked-of-above (suc left) xs {y} {z} h (directly e) =
+    subst (λ (l : List Space). z ∈ l) (sym (upward-some left xs y e)) (List·Memᴰ·head refl)
+walked-of-above (suc left) xs {y} {z} h (further {t = t} e a) =
+    let l : length (t ∷ upward left xs t) < suc left = rw (upward-some left xs y e) at h in
+    subst (λ (l : List Space). z ∈ l) (sym (upward-some left xs y e)) (List·Memᴰ·tail (walked-of-above left xs (omega arith) a))
+
+-- ---- within the 8 levels the walk finds all that are above, and nothing speaks of the levels left
+
+pub above-exactly : (xs : List Space) (y z : Space) → level xs y ≤ 8 → (z ∈ above xs y) ↔ Above xs y z
+unfolding above
+above-exactly xs y z h = (above-of-walked 8 xs y z, walked-of-above 8 xs (omega arith))
+
+pub above-of-room : (xs : List Space) (y : Space) {z : Space} → level xs y ≤ 8 → enclosing xs y ≡ some z → above xs y ≡ z ∷ above xs z
+unfolding above
+above-of-room xs y {z} h e =
+    let u : above xs y ≡ z ∷ upward 7 xs z = upward-some 7 xs y e in
+    let l : length (z ∷ upward 7 xs z) + 1 ≤ 8 = rw u at h in
+    u ∙ ap (λ (l : List Space). z ∷ l) (sym (upward-ended 7 xs z (omega arith)))
+
+-- "A U, B, S or H is at level 1, a room one below its enclosing space"
+pub level-of-other : (xs : List Space) (y : Space) → isRoom y ≡ false → level xs y ≡ 1
+unfolding above
+level-of-other xs y r = rw (upward-none 7 xs y (enclosing-of-other xs y r))
+
+pub level-of-room : (xs : List Space) (y : Space) {z : Space} → level xs y ≤ 8 → enclosing xs y ≡ some z → level xs y ≡ level xs z + 1
+level-of-room xs y {z} h e = omega (arith, ap length (above-of-room xs y {z = z} h e))
+
+-- ---- all plain, one by one
+
+pub plain-of-all : {zs : List Space} {z : Space} → allPlain zs ≡ true → z ∈ zs → isPlain z ≡ true
+plain-of-all {zs = t ∷ zs} {z} e (List·Memᴰ·head q) = ap isPlain q ∙ and-holds (isPlain t) (allPlain zs) e .0
+plain-of-all {zs = t ∷ zs} {z} e (List·Memᴰ·tail m) = plain-of-all (and-holds (isPlain t) (allPlain zs) e .1) m
+
+pub all-plain-of : (zs : List Space) → ((z : Space) → z ∈ zs → isPlain z ≡ true) → allPlain zs ≡ true
+all-plain-of [] h = refl
+all-plain-of (z ∷ zs) h =
+    and-holds-of (isPlain z) (allPlain zs) (h z (List·Memᴰ·head refl)) (all-plain-of zs (λ y m. h y (List·Memᴰ·tail m)))
+
+-- ---- what is below
+
+among-of : (id : ℕ) {zs : List Space} {z : Space} → z ∈ zs → z .id ≡ id → among id zs ≡ true
+among-of id {zs = t ∷ zs} {z} (List·Memᴰ·head q) e = rw (eq-eqb (t .id) id (sym (ap (λ (s : Space). s .id) q) ∙ e))
+among-of id {zs = t ∷ zs} {z} (List·Memᴰ·tail m) e = by-test (eqb (t .id) id) (λ y. rw y) (λ n. rw n (among-of id m e))
+
+some-among : (id : ℕ) (zs : List Space) → among id zs ≡ true → (z : Space) × (z ∈ zs) × (z .id ≡ id)
+some-among id [] e = not-both e refl
+some-among id (t ∷ zs) e =
+    by-test (eqb (t .id) id)
+    (λ y. (t, List·Memᴰ·head refl, eqb-true (t .id) id y))
+    (λ n. let r = some-among id zs (rw n at e) in (r .0, List·Memᴰ·tail (r .1), r .2))
+
+below-of-these : (id : ℕ) (xs : List Space) {ys : List Space} {y : Space} → y ∈ ys → among id (above xs y) ≡ true → y ∈ belowOf id xs ys
+below-of-these id xs {ys = t ∷ ys} {y} (List·Memᴰ·head q) e =
+    rw (subst (λ (s : Space). among id (above xs s) ≡ true) q e) (List·Memᴰ·head q)
+below-of-these id xs {ys = t ∷ ys} {y} (List·Memᴰ·tail m) e =
+    by-test (among id (above xs t)) (λ a. rw a (List·Memᴰ·tail (below-of-these id xs m e))) (λ a. rw a (below-of-these id xs m e))
+
+these-below : (id : ℕ) (xs ys : List Space) {y : Space} → y ∈ belowOf id xs ys → (y ∈ ys) × (among id (above xs y) ≡ true)
+these-below id xs [] m = absurd (List·Memᴰ·not-nil m)
+these-below id xs (t ∷ ys) {y} m =
+    by-test (among id (above xs t))
+    (λ a.
+    ⊎-elim (λ (q : y ≡ t). (List·Memᴰ·head q, ap (λ (s : Space). among id (above xs s)) q ∙ a))
+    (λ (k : y ∈ belowOf id xs ys). let r = these-below id xs ys k in (List·Memᴰ·tail (r .0), r .1))
+    (List·Memᴰ·cases-cons (rw a at m)))
+    (λ a. let r = these-below id xs ys (rw a at m) in (List·Memᴰ·tail (r .0), r .1))
+
+-- a space is below an id exactly where one with the id is above it
+pub below-exactly : (id : ℕ) (xs : List Space) (y : Space) → (y ∈ below id xs) ↔ ((y ∈ xs) × ((z : Space) × (z ∈ above xs y) × (z .id ≡ id)))
+below-exactly id xs y = (
+  λ m. let r = these-below id xs xs m in (r .0, some-among id (above xs y) (r .1)),
+  λ h. below-of-these id xs (h .0) (among-of id (h .1 .1) (h .1 .2)),
+)

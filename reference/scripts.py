@@ -1,0 +1,782 @@
+"""Seeded scripts of calls in the protocol of survey.py, steered by the sheet that the calls so far have made.
+
+    python3 -m reference.scripts                    prints the standard script, which visits every edge of the rules
+    python3 -m reference.scripts SEED CALLS         prints a script of that many calls at random
+
+Every section is a generator of lines: each line is answered before the next is asked for, so a section sees the sheet
+after its last line.
+"""
+
+import sys
+from itertools import combinations, islice, product
+from random import Random
+from typing import Callable, Iterator, Sequence
+
+from reference import figures, measure as m, sheet as s
+from reference.figures import one_of
+from reference.measure import B, H, R, S, U
+from reference.sheet import BALLAST, DEDUCTED, EXEMPT, PLAIN, Sheet
+from reference.survey import MOST_NUMBERS, Session
+
+Lines = Iterator[str]
+Section = Callable[[Random, Session], Lines]
+
+LOOK = ("counts", "spaces")
+LOOK_AND_REPORT = ("counts", "spaces", "report 0", "report 1")
+BEYOND_16 = (65_535, 65_536, 65_537, 2**64 - 1)  # ids above their type, one that would wrap to 1
+BEYOND_8 = (4, 255, 256, 257, 261, 2**16, 2**64 - 1)  # codes above their range or type, some that would wrap into it
+BEYOND_32 = (2**32 - 1, 2**32, 2**32 + 600, 2**64 - 1)  # measures likewise
+
+
+# Lines
+
+def word(argument: int | Sequence[int]) -> str:
+    """A number, or numbers joined by commas, '-' for none."""
+    if isinstance(argument, int):
+        return str(argument)
+    return ",".join(map(str, argument)) or "-"
+
+
+def call(name: str, *arguments: int | Sequence[int]) -> str:
+    """The line of a call."""
+    return " ".join([name, *map(word, arguments)])
+
+
+def enter(
+    id: int, within: int, kind: int, standing: int, length: int, heights: Sequence[int], breadths: Sequence[int]
+) -> str:
+    """The line of an entry."""
+    return call("enter", id, within, kind, standing, length, heights, breadths)
+
+
+def box_measures(tonnage: int) -> tuple[int, list[int], list[int]]:
+    """Length, height and breadth of an H or R of exactly this tonnage: ten feet by ten feet, or next to nothing."""
+    return (tonnage, [1000], [1000]) if tonnage else (1, [1], [1])
+
+
+def room(id: int, within: int, tonnage: int = 0, standing: int = PLAIN) -> str:
+    """The entry of a room of this tonnage."""
+    return enter(id, within, R, standing, *box_measures(tonnage))
+
+
+def hatchway(id: int, tonnage: int) -> str:
+    """The entry of a hatchway of this tonnage."""
+    return enter(id, 0, H, PLAIN, *box_measures(tonnage))
+
+
+def divided(
+    id: int, kind: int, tonnage_length: int, length: int, height: int, breadth: int, standing: int = PLAIN
+) -> str:
+    """The entry of a U, B or S with one height and one breadth throughout."""
+    space = figures.uniform(kind, tonnage_length, length, height, breadth)
+    return enter(id, 0, kind, standing, length, space.heights, space.breadths)
+
+
+def mark(id: int, standing: int) -> str:
+    """The line of a mark."""
+    return call("mark", id, standing)
+
+
+def withdraw(id: int) -> str:
+    """The line of a withdrawal."""
+    return call("withdraw", id)
+
+
+# Sheets that sections begin with
+
+def a_thousand() -> Lines:
+    """U 1 and 2 of 360 each and S 3 of 280, on a tonnage length of 1200: T is 1000."""
+    yield "open 1200"
+    yield divided(1, U, 1200, 600, 1200, 500)
+    yield divided(2, U, 1200, 600, 1200, 500)
+    yield divided(3, S, 1200, 300, 933, 1000)
+
+
+def twenty_thousand() -> Lines:
+    """U 1 and 2 of 9000 each and S 3 of 2000, on a tonnage length of 3000: T is 20000."""
+    yield "open 3000"
+    yield divided(1, U, 3000, 1500, 1200, 5000)
+    yield divided(2, U, 3000, 1500, 1200, 5000)
+    yield divided(3, S, 3000, 900, 1111, 2000)
+
+
+def chain(outer: int, first: int, levels: int, tonnage: int) -> Lines:
+    """Rooms of one tonnage, each inside the one before, with ids from the first on; the outermost is inside `outer`."""
+    yield room(first, outer, tonnage)
+    yield from (room(id, id - 1, tonnage) for id in range(first + 1, first + levels))
+
+
+def tried(session: Session, line: str) -> Lines:
+    """A change, looked at and undone where it is accepted."""
+    before = session.sheet
+    yield line
+    if session.sheet != before:
+        yield from ("spaces", "undo")
+
+
+# Sections of edges
+
+def not_open(rng: Random, session: Session) -> Lines:
+    """Every call on a sheet not open, with arguments that would be accepted and with others."""
+    yield "# Calls on a sheet not open"
+    yield from ("counts", "spaces", "undo", "redo", "report 0", "report 1", "report 2", "report 256")
+    yield from (divided(1, U, 1200, 600, 1200, 500), hatchway(2, 10), room(3, 1, 5), room(0, 0, 5, 4))
+    yield from (enter(1, 0, 9, 0, 0, [], []), enter(10_000, 0, H, 1, 2**32, [0], []))
+    yield from (withdraw(1), withdraw(0), mark(1, 0), mark(1, 4), mark(65_536, 256))
+    yield from LOOK
+
+
+def openings(rng: Random, session: Session) -> Lines:
+    """Openings refused and accepted; a refused one leaves no sheet, an accepted one an empty sheet."""
+    yield "# Opening and opening again"
+    for length in (0, 1, 99, 100, 101, 150_000, 150_001, *BEYOND_32, 2**32 + 4800):
+        yield f"open {length}"
+        yield from LOOK
+        yield hatchway(1, 10)
+        yield from ("undo", "counts", "spaces")
+    for again in ("open 4800", "open 1200", "open 99", "open 1200"):
+        yield from a_thousand()
+        yield from (hatchway(9, 20), "undo", *LOOK_AND_REPORT, again, *LOOK_AND_REPORT)
+        yield from ("redo", "undo", hatchway(9, 20), mark(1, 0), withdraw(1), *LOOK)
+
+
+def paper_sheet(rng: Random, session: Session) -> Lines:
+    """The paper's whole sheet."""
+    yield "# The paper's whole sheet"
+    yield "open 4800"
+    yield divided(1, U, 4800, 4800, 1200, 2000)
+    yield divided(2, S, 4800, 1600, 800, 1000)
+    yield enter(3, 1, R, BALLAST, 1000, [400], [1000])
+    yield enter(4, 2, R, DEDUCTED, 800, [800], [500])
+    yield enter(5, 0, H, PLAIN, 500, [500], [400])
+    yield from LOOK_AND_REPORT
+    yield from (withdraw(3), "report 0", "undo", withdraw(5), "report 0", "undo", *LOOK_AND_REPORT)
+
+
+def hatchways(rng: Random, session: Session) -> Lines:
+    """The hatchways at the allowance and over it, the allowance taken of G after all that is exempt."""
+    yield "# Excess of the hatchways"
+    yield from twenty_thousand()
+    yield from ("report 0", hatchway(4, 99), "report 0", hatchway(5, 1), "report 0", hatchway(6, 1), "report 0")
+    yield from (room(7, 1, 99, EXEMPT), "report 0", room(8, 1, 1, BALLAST), "report 0")
+    yield from (room(9, 1, 1, DEDUCTED), "report 0", mark(3, EXEMPT), *LOOK_AND_REPORT)
+    yield from (hatchway(10, 5000), *LOOK_AND_REPORT, withdraw(4), withdraw(5), withdraw(6), *LOOK_AND_REPORT)
+    yield "# Nothing but hatchways in the gross"
+    yield from ("open 1200", divided(1, U, 1200, 600, 0, 500), divided(2, U, 1200, 600, 500, 0), "report 0")
+    yield from (hatchway(3, 77), "report 0", divided(4, S, 1200, 300, 933, 1000), "report 0", mark(4, EXEMPT))
+    yield from LOOK_AND_REPORT
+
+
+def ballast(rng: Random, session: Session) -> Lines:
+    """Ballast at 30% exactly and over it, with exempt spaces and with hatchways."""
+    yield "# Water ballast"
+    yield from a_thousand()
+    yield from (room(4, 1, 300, BALLAST), "report 0", room(5, 1, 1, BALLAST))
+    yield from ("report 0", "report 1", "report 2", mark(5, EXEMPT), "report 0", mark(5, DEDUCTED), "report 0")
+    yield from (mark(5, BALLAST), "report 0", withdraw(5), "report 0", "undo", "report 0", "redo", "report 0")
+    yield "# 720, the superstructure being exempt: 216 is 30%"
+    yield from a_thousand()
+    yield from (mark(3, EXEMPT), room(4, 1, 200, BALLAST), room(5, 2, 16, BALLAST), "report 0")
+    yield from (room(6, 2, 1, BALLAST), "report 0", "report 1", mark(3, PLAIN), "report 0", *LOOK)
+    yield "# 1010 with hatchways of 15: 303 is 30%; 1013 with 18; 1001 with 6"
+    for of_hatchways, within_share in ((15, 303), (18, 303), (6, 300), (0, 300), (5, 300), (7, 300), (9, 301)):
+        yield from a_thousand()
+        yield from [hatchway(4, of_hatchways)] if of_hatchways else []
+        yield from (room(5, 1, within_share, BALLAST), "report 0", "report 1")
+        yield from (room(6, 1, 1, BALLAST), "report 0", "report 1")
+    yield "# 30% of nothing"
+    yield from ("open 1200", divided(1, U, 1200, 600, 0, 500), divided(2, U, 1200, 600, 500, 0))
+    yield from (room(3, 1, 0, BALLAST), "report 0", "report 1", *LOOK)
+
+
+def reports(rng: Random, session: Session) -> Lines:
+    """Every justified mark on a sheet in every condition: not open, short, with ballast over, and in order."""
+    yield "# Justified marks"
+    marks = (0, 1, 2, 3, 255, 256, 257, 2**64 - 1)
+    beginnings = (
+        ("open 99",), ("open 1200",), ("open 1200", divided(1, U, 1200, 600, 1200, 500)),
+        ("open 1200", divided(1, U, 1200, 600, 1200, 500), room(4, 1, 300, BALLAST)),
+        (*a_thousand(), room(4, 1, 301, BALLAST)), tuple(a_thousand()),
+    )
+    for beginning in beginnings:
+        yield from beginning
+        yield from (f"report {one}" for one in marks)
+        yield from LOOK
+
+
+def kinds_by_standings(rng: Random, session: Session) -> Lines:
+    """Every kind entered with every standing, and marked with every standing; unknown ones too."""
+    yield "# Kinds by standings"
+    measures = {
+        U: (100, [500] * 3, [500] * 15), B: (1200, [500] * 7, [500] * 7), S: (300, [500] * 3, [500] * 3),
+        H: (100, [500], [500]), R: (10, [500], [500]),
+    }
+    yield "open 1200"
+    yield divided(1, U, 1200, 600, 1200, 500)
+    for kind in (0, 1, 2, 3, 4, 5, 6, 255, 256, 261, 2**64 - 1):
+        for standing in (*s.STANDINGS, 4, 255, 256, 2**64 - 1) if kind in m.KINDS else (0, 1, 4):
+            yield from tried(session, enter(10, 1, kind, standing, *measures.get(kind, measures[R])))
+    for kind in m.KINDS:
+        yield enter(kind * 10, 1, kind, PLAIN, *measures[kind])
+        for standing in (*s.STANDINGS, 4, 255, 256, 2**64 - 1, PLAIN):
+            yield mark(kind * 10, standing)
+        yield from LOOK
+
+
+def all_at_once(rng: Random, session: Session) -> Lines:
+    """Entries to which several numbers apply, in every way they can meet, on a sheet with places and on a full one."""
+    yield "# Several numbers at once"
+    yield "open 1200"
+    yield divided(1, U, 1200, 600, 1200, 500)
+    yield divided(2, S, 1200, 300, 933, 1000, EXEMPT)
+    yield hatchway(3, 50)
+    yield from chain(1, 11, 7, 100)
+    yield from (mark(14, DEDUCTED), room(21, 1, 10), *LOOK)
+    step = ([1200] * 3, [500] * 15)
+    entries = (  # within, kind, standing and measures
+        (21, R, PLAIN, *box_measures(1)), (9_999, R, PLAIN, *box_measures(1)), (500, R, EXEMPT, *box_measures(1)),
+        (0, R, EXEMPT, *box_measures(1)), (3, R, PLAIN, *box_measures(0)), (3, R, DEDUCTED, *box_measures(51)),
+        (1, H, EXEMPT, *box_measures(1)), (1, U, EXEMPT, 601, *step), (1, U, PLAIN, 601, *step),
+        (17, R, PLAIN, *box_measures(0)), (17, R, PLAIN, *box_measures(101)), (17, R, EXEMPT, *box_measures(100)),
+        (17, R, BALLAST, *box_measures(101)), (2, R, EXEMPT, *box_measures(1)), (2, R, DEDUCTED, *box_measures(281)),
+        (16, R, DEDUCTED, *box_measures(0)), (14, R, EXEMPT, *box_measures(1)), (13, R, PLAIN, *box_measures(1)),
+        (21, R, EXEMPT, *box_measures(11)),
+    )
+    for full in (False, True):
+        if full:
+            yield from (room(id, 21) for id in range(1000, 1000 + s.PLACES - len(session.sheet.spaces)))
+        for within, kind, standing, length, heights, breadths in entries:
+            for id, wide, more in product((500, 21), (False, True), ([], [7])):
+                wrong = [*breadths[:-1], 30_001] if wide else breadths
+                yield from tried(session, enter(id, within, kind, standing, length, [*heights, *more], wrong))
+            yield enter(500, within, kind, 4, length, heights, breadths)
+        yield from ("counts", "report 0")
+    yield from (mark(id, standing) for id in (1, 2, 3, 11, 14, 17, 21, 500, 0, 65_550) for standing in range(5))
+    yield from LOOK
+
+
+def ranges(rng: Random, session: Session) -> Lines:
+    """One argument of an entry at an end of its range or beyond, or above its type; measures too few and too many."""
+    yield "# Ranges and numbers of measures"
+    yield from ("open 1200", divided(1, U, 1200, 600, 1200, 500))
+    examples = (
+        (U, 600, [1200] * 3, [500] * 15), (B, 1200, [500] * 7, [500] * 7), (S, 300, [500] * 3, [500] * 3),
+        (H, 100, [500], [500]), (R, 10, [500], [500]),
+    )
+    for kind, length, heights, breadths in examples:
+        entries = [enter(id, 1, kind, 0, length, heights, breadths) for id in (0, 1, 9_999, 10_000, *BEYOND_16)]
+        entries += [enter(7, 1, kind, 0, other, heights, breadths) for other in (0, 1, 99, 100, 150_001, *BEYOND_32)]
+        for one in (0, 20_000, 20_001, *BEYOND_32):
+            entries.append(enter(7, 1, kind, 0, length, [one, *heights[1:]], breadths))
+            entries.append(enter(7, 1, kind, 0, length, [*heights, one], breadths))
+        for one in (0, 30_000, 30_001, *BEYOND_32):
+            entries.append(enter(7, 1, kind, 0, length, heights, [*breadths[1:], one]))
+            entries.append(enter(7, 1, kind, 0, length, heights, [one, *breadths]))
+        for others in ([], heights * 2):
+            entries += [enter(7, 1, kind, 0, length, others, breadths), enter(7, 1, kind, 0, length, heights, others)]
+        for entry in entries:
+            yield from tried(session, entry)
+    yield "# Enclosing ids and ids to withdraw and mark"
+    for id in (0, 1, 2, 7, 9_999, 10_000, *BEYOND_16):
+        for line in (room(7, id, 1), withdraw(id), mark(id, 0)):
+            yield from tried(session, line)
+    for one in BEYOND_8:
+        yield from (room(7, 1, 1, one), mark(1, one), f"report {one}")
+        yield from tried(session, enter(7, 1, one, 0, 10, [500], [500]))  # 4 is the code of a hatchway
+    yield "# An enclosing id given for a U, B, S or H isn't read"
+    for kind, length, heights, breadths in examples[:4]:
+        for within in (1, 7, 9_998, 65_537, 2**64 - 1):
+            yield from tried(session, enter(7, within, kind, 0, length, heights, breadths))
+    yield "# Zeros in front, and lists as long as they may be"
+    yield from ("open 0001200", "enter 007 0 04 00 0010 0001000 01000", "report 00", "withdraw " + "0" * 5000 + "7")
+    for kind in m.KINDS:
+        yield enter(7, 7, kind, 0, 600, [9] * MOST_NUMBERS, [9])
+        yield enter(7, 7, kind, 0, 600, [9], [9] * MOST_NUMBERS)
+    yield from LOOK
+
+
+def levels(rng: Random, session: Session) -> Lines:
+    """Rooms down to the eighth level and one below, in a U, a B and an S; rooms of nothing have a level too."""
+    yield "# Levels"
+    outers = (
+        divided(1, U, 1200, 600, 1200, 500), divided(1, B, 1200, 1200, 500, 500), divided(1, S, 1200, 300, 933, 1000)
+    )
+    for outer, tonnage in product(outers, (0, 20)):
+        yield from ("open 1200", outer)
+        yield from chain(1, 2, 6, tonnage)
+        yield from ("spaces", room(8, 7, tonnage), "spaces", room(9, 8, tonnage), room(9, 8), room(9, 8, 21, EXEMPT))
+        yield from (room(9, 7), room(10, 7), room(11, 9), withdraw(8), room(11, 9), withdraw(7), withdraw(9))
+        yield from (room(8, 7, 0, EXEMPT), mark(8, DEDUCTED), room(12, 8), *LOOK_AND_REPORT)
+
+
+def sums_of_rooms(rng: Random, session: Session) -> Lines:
+    """Rooms that fill their enclosing space exactly or pass it by one; those farther down don't count again."""
+    yield "# Rooms against the enclosing tonnage"
+    for outer in (1, 3, 4, 5):
+        yield from a_thousand()
+        yield from (room(4, 2, 111), divided(5, B, 1200, 1200, 650, 450))
+        before = len(session.sheet.spaces)
+        rest = s.find(session.sheet.spaces, outer).tonnage
+        yield from (room(6, outer, rest + 1), room(6, outer, rest), room(7, outer, 1), room(7, outer, 0))
+        yield from ("spaces", "undo", "undo")
+        yield from (room(6, outer, 100, EXEMPT), room(7, outer, rest - 99), room(7, outer, rest - 100, DEDUCTED))
+        yield from (room(8, outer, 1), room(8, outer, 0), room(9, 7, rest - 99), room(9, 7, rest - 100), "spaces")
+        yield from (withdraw(6), room(10, outer, 101), room(10, outer, 99), room(11, outer, 2), room(11, outer, 1))
+        yield from LOOK_AND_REPORT
+        yield from ["undo"] * (len(session.sheet.spaces) - before)
+        yield from ("spaces", room(12, outer, 1), "redo", *LOOK_AND_REPORT)
+    yield "# Rooms of nothing, in a full space and in one of nothing"
+    yield from ("open 1200", divided(1, U, 1200, 600, 0, 500), divided(2, U, 1200, 600, 600, 0))
+    yield from (room(3, 1, 1), room(3, 1), room(4, 1), room(5, 3), withdraw(3), room(6, 5, 1), mark(5, EXEMPT))
+    yield from (mark(3, EXEMPT), room(6, 5, 0, BALLAST), room(6, 5), *LOOK_AND_REPORT, withdraw(5), withdraw(6))
+    yield from (withdraw(5), withdraw(3), *LOOK_AND_REPORT)
+
+
+def under_deck(id: int, length: int, stations: int) -> str:
+    """The entry of a U with that number of stations, each with five breadths."""
+    return enter(id, 0, U, PLAIN, length, [1200] * stations, [5] * (5 * stations))
+
+
+def sums_of_lengths(rng: Random, session: Session) -> Lines:
+    """U lengths that add up exactly, that pass by one and that stay short; the whole and its step parts."""
+    yield "# U lengths against the tonnage length"
+    yield from ("open 1200", "report 0", under_deck(1, 600, 3), "report 0", under_deck(2, 601, 3))
+    yield from (under_deck(2, 599, 3), "report 0", under_deck(3, 1, 3), under_deck(3, 99, 3), under_deck(3, 100, 3))
+    yield from (withdraw(2), under_deck(3, 500, 3), "report 0", under_deck(4, 101, 3), under_deck(4, 100, 3))
+    yield from ("report 0", under_deck(5, 100, 3), "spaces", "undo", "report 0", "redo", "report 0")
+    yield from (withdraw(1), "report 0", "report 1", under_deck(1, 601, 3), under_deck(1, 600, 3), *LOOK_AND_REPORT)
+    yield "# Lengths of other kinds don't count"
+    yield from (hatchway(6, 1300), divided(7, B, 1200, 1300, 500, 500), divided(8, S, 1200, 1300, 500, 500), "report 0")
+    for tonnage_length, stations_of_whole in ((1200, 7), (3000, 7), (5001, 9)):
+        yield f"# The whole of {tonnage_length} by the table, others as step parts"
+        yield f"open {tonnage_length}"
+        step = m.parts_of_step_part(tonnage_length + 1) + 1
+        for id, length in ((2, tonnage_length + 1), (1, tonnage_length), (2, tonnage_length + 1)):
+            for stations in sorted({step, stations_of_whole}):
+                yield from (under_deck(id, length, stations), "report 0")
+        yield from (*LOOK, under_deck(2, 100, 3), "undo", under_deck(2, 100, 3), "report 0")
+        for stations in sorted({step, stations_of_whole}):
+            yield under_deck(3, tonnage_length, stations)
+        yield from (under_deck(3, tonnage_length - 100, m.parts_of_step_part(tonnage_length - 100) + 1), *LOOK)
+        yield "report 0"
+    yield from ("open 100", under_deck(1, 100, 3), under_deck(1, 100, 7), under_deck(2, 100, 7), *LOOK_AND_REPORT)
+
+
+def two_hundred(rng: Random, session: Session) -> Lines:
+    """The 200th space and the 201st; places freed by withdrawal and by undo; undo and redo where 200 stand."""
+    yield "# Two hundred spaces"
+    yield from a_thousand()
+    yield from (room(id, 1, 1) for id in range(1004, 1000 + s.PLACES))
+    yield from ("counts", "report 0", room(9_000, 2, 5), "counts", "spaces")
+    yield from (hatchway(9_001, 5), room(9_001, 2, 1), room(9_000, 2, 1), under_deck(9_001, 100, 3), room(9_001, 77, 1))
+    yield from (divided(9_001, B, 1200, 1200, 50, 50), enter(9_001, 1, 9, 0, 1, [], []), mark(9_000, EXEMPT))
+    yield from ("undo", "undo", "counts", room(9_001, 2, 1), room(9_002, 2, 1), "redo", "counts", "report 0")
+    yield from (withdraw(1100), room(9_002, 2, 1), room(9_003, 2, 1), "spaces", "undo", "undo", room(9_003, 2, 1))
+    yield from ("counts", "redo", "redo", "redo", "counts", "report 0", room(9_003, 2, 1), "spaces")
+    yield from (withdraw(1150), hatchway(1150, 20), hatchway(9_003, 20), "report 0", "counts")
+    yield from ["undo"] * 65
+    yield from ("counts", "report 0", room(9_003, 2, 1), withdraw(9_003))
+    yield from (room(id, 3) for id in range(9_100, 9_100 + s.PLACES + 1 - len(session.sheet.spaces)))
+    yield from ("counts", "report 0", "spaces")
+    yield from (withdraw(id) for id in range(9_159, 9_119, -1))
+    yield from (room(9_999, 2, 7), "report 0", *["undo"] * 41, "counts", room(9_998, 2, 7), "redo", "spaces")
+
+
+def sixty_four(rng: Random, session: Session) -> Lines:
+    """The 64th and the 65th change, undone and made again; an older change pushed out stays made for good."""
+    for changes in (64, 65):
+        yield f"# {changes} changes, undone and made again"
+        yield "open 1200"
+        yield from (hatchway(id, id) for id in range(1, changes + 1))
+        yield "counts"
+        for undone in range(changes):
+            yield from ("undo", "counts", "spaces") if undone > changes - 8 else ("undo",)
+        yield from LOOK
+        yield from ["redo"] * changes
+        yield from ("counts", "redo", *LOOK, "undo", hatchway(100, 7), "redo", "counts")
+    yield "# 64 changes, 10 undos, one change"
+    yield from ("open 1200", divided(1, U, 1200, 600, 1200, 500))
+    yield from (mark(1, PLAIN) for _ in range(10))
+    yield from (room(id, 1, id) for id in range(2, 22))
+    yield from (withdraw(id) for id in range(20, 4, -2))
+    yield from (mark(id, id % 4) for id in (*range(3, 22, 2), 2, 4, *range(3, 16, 2)))
+    yield from [mark(1, PLAIN)] * (64 - len(session.sheet.earlier))
+    yield from ("counts", *["undo"] * 10, *LOOK, room(99, 1, 1), *LOOK, "redo", "counts")
+    for _ in range(56):
+        yield from ("undo", "spaces")
+    yield "counts"
+    yield from ["redo"] * 30
+    yield from (*LOOK, mark(99, EXEMPT), room(98, 1, 1), "counts", "redo", *["undo"] * 40, *LOOK)
+    yield "# 65 marks of the same standing"
+    yield from ("open 1200", hatchway(1, 10), *[mark(1, PLAIN)] * 65, "counts", *["undo"] * 65, *LOOK)
+
+
+def redo_after(rng: Random, session: Session) -> Lines:
+    """What was undone can be made again after reports, refused calls and malformed lines, but not after a change."""
+    yield "# Redo after calls that change nothing"
+    between = (
+        "report 0", "report 1", "report 2", *LOOK, room(3, 1, 1), room(0, 1, 1), room(9, 8, 1),
+        enter(9, 0, H, 0, 10, [0], [9]), enter(9, 0, H, 0, 10, [], []), enter(9, 0, H, 1, 10, [9], [9]),
+        room(9, 1, 9999), withdraw(77), mark(77, 0), mark(1, 1), mark(1, 4), "redo 1", "rdo", "enter 1", "open",
+        "open x",
+    )
+    for one in between:
+        yield from a_thousand()
+        yield from (room(4, 1, 50), mark(4, EXEMPT), "undo", "undo", one, "counts", "redo", one, "redo", "redo", *LOOK)
+    yield from a_thousand()
+    yield from ["undo"] * 4
+    yield from (*LOOK, "redo", "redo", "redo", "redo", *LOOK)
+    yield "# Not after a change, even one that shows nothing"
+    for one in (mark(1, PLAIN), mark(3, PLAIN), mark(3, EXEMPT), withdraw(2), hatchway(9, 1)):
+        yield from a_thousand()
+        yield from (room(4, 1, 50), "undo", one, "redo", *LOOK, "undo", "redo", "redo", *LOOK)
+
+
+def order_of_entry(rng: Random, session: Session) -> Lines:
+    """A space whose withdrawal is undone stands at its former place; one entered again stands last."""
+    yield "# Order of entry"
+    yield from a_thousand()
+    yield from (*(room(id, 1, id) for id in range(4, 9)), hatchway(9, 5), room(10, 4, 1), "spaces")
+    for id in (6, 2, 3, 9, 10, 5):
+        yield from (withdraw(id), "spaces", "undo", "spaces", "redo", "spaces", "undo")
+    yield from (withdraw(4), withdraw(10), withdraw(4), withdraw(7), withdraw(5), "spaces", "undo", "spaces", "undo")
+    yield from ("spaces", "undo", "spaces", "undo", "spaces", "redo", "redo", "spaces", room(4, 2, 4), "spaces", "redo")
+    yield from ("undo", "undo", "undo", *LOOK_AND_REPORT)
+
+
+def ids_again(rng: Random, session: Session) -> Lines:
+    """Ids freed by withdrawal and by an undone entry, entered again, of the same and of another kind."""
+    yield "# Ids entered again"
+    entries = (
+        divided(5, S, 1200, 300, 500, 500, EXEMPT), hatchway(5, 30), room(5, 1, 20, DEDUCTED),
+        divided(5, B, 1200, 1200, 50, 500), room(5, 3, 20, BALLAST),
+    )
+    for one, other in (
+        *zip(entries, entries[1:] + entries[:1]), *zip(entries, entries[2:] + entries[:2]), (entries[1], entries[1])
+    ):
+        yield from (*a_thousand(), one, room(6, 2, 9), withdraw(5), other, *LOOK, "undo", "undo", "spaces", "redo")
+        yield from ("redo", "redo", *LOOK_AND_REPORT, other, withdraw(5), "undo", "undo", one, "spaces")
+        yield from (*a_thousand(), one, "undo", other, *LOOK, "redo", "undo", "redo", one, *LOOK_AND_REPORT)
+    yield "# Own id as enclosing id"
+    yield from (*a_thousand(), room(5, 5, 1), room(1, 1, 1), room(5, 1, 1), room(5, 5, 1), "undo", room(5, 5, 1), *LOOK)
+    yield "# The U of a freed id, with room for another length"
+    yield from (*a_thousand(), withdraw(2), divided(2, U, 1200, 500, 900, 500), "report 0", "undo", "undo", "report 0")
+
+
+def not_plain(rng: Random, session: Session) -> Lines:
+    """Of two spaces that aren't plain neither is above the other: by marks and entries at every pair of levels."""
+    yield "# Not plain above and below"
+    yield from ("open 1200", divided(1, S, 1200, 300, 933, 1000))
+    yield from chain(1, 2, 7, 40)
+    yield from (room(20, 4, 0), room(21, 20, 0), room(22, 1, 40))
+    for upper, lower in combinations(range(1, 9), 2):
+        of_upper = EXEMPT if upper == 1 else one_of(rng, s.NOT_PLAIN)
+        of_lower = one_of(rng, s.NOT_PLAIN)
+        yield from (mark(upper, of_upper), mark(lower, of_lower), mark(lower, PLAIN), mark(upper, PLAIN))
+        yield from (mark(lower, of_lower), mark(upper, of_upper), mark(upper, PLAIN), "counts", mark(lower, PLAIN))
+    yield from ("spaces", "undo", "undo", "redo")
+    yield "# One not plain standing for another, and spaces beside one another"
+    for id in (2, 5, 8, 20, 22):
+        yield from (mark(id, standing) for standing in (1, 2, 3, 3, 1, 1, 3, 2, 2, 1))
+        yield from (*LOOK, mark(1, EXEMPT), mark(21, 3), mark(id, PLAIN), "report 0")
+    yield from (mark(21, PLAIN), mark(20, PLAIN), mark(22, BALLAST), mark(5, EXEMPT), mark(21, DEDUCTED), *LOOK)
+    yield from (mark(id, standing) for id in (1, 2, 3, 4, 20, 6, 8) for standing in (1, 2, 3, 0))
+    yield "# Entries below a space that isn't plain"
+    for depth in range(1, 8):
+        yield from ("open 1200", divided(1, S, 1200, 300, 933, 1000), *chain(1, 2, 6, 40))
+        yield from (mark(depth, EXEMPT), room(30, 7, 1, one_of(rng, s.NOT_PLAIN)), room(30, depth, 1, DEDUCTED))
+        yield from (room(30, depth), room(31, 30, 0, BALLAST), mark(30, EXEMPT), mark(depth, PLAIN))
+        yield from (mark(30, EXEMPT), room(31, 30, 0, BALLAST), room(31, depth, 0, BALLAST), *LOOK)
+
+
+# Lines that are no calls, for each remark
+MALFORMED = (
+    "", "#", "# open 1200", " ", " undo", "Undo", "UNDO", "undo\t", "undo\r", "open\t1200", "close", "reports 0", "0",
+    "?", "-", "enter,1", " # open 1200", "\topen 1200", "counts#",
+    "open", "open 1200 1200", "open  1200", "open 1200 ", "undo ", "undo 1", "redo 0", "counts 0", "counts ",
+    "spaces 1", "report", "report 0 0", "report  ", "withdraw", "withdraw 1 2", "mark 1", "mark 1 0 0", "mark 1 0 ",
+    "mark", "enter 9 0 4 0 10 5", "enter 9 0 4 0 10 5 5 5", "enter", "enter 9 0 4 0 10  5 5",
+    "enter 9 0 4 0 10 5 ,5 ", "enter ",
+    "open x", "open ", "open -1", "open +1200", "open 1200.0", "open 1e3", "open 0x4b0", "open 1_200", "open 12,00",
+    "open -", "report -", "report ", "report 0x0", "withdraw a", "withdraw -1", "mark x 0", "mark 1 y", "mark 1 -",
+    "mark  0", "enter x 0 4 0 10 5 5", "enter 9 x 4 0 10 5 5", "enter 9 - 4 0 10 5 5", "enter 9 0 H 0 10 5 5",
+    "enter 9 0 4 plain 10 5 5", "enter 9 0 4 0 ten 5 5", "enter 9 0 4 0 10 x 5", "enter 9 0 4 0 10 5 x",
+    "enter 9 0 4 0 10 5, 5", "enter 9 0 4 0 10 ,5 5", "enter 9 0 4 0 10 5 5,,5", "enter 9 0 4 0 10 , 5",
+    "enter 9 0 4 0 10 -- 5", "enter 9 0 4 0 10 5 -,5", "enter 9 0 4 0 10 5 5,-", "enter 9 0 4 0 10  5",
+    "open 18446744073709551616", "open 99999999999999999999", "open 100000000000000000000", "open 1" + "0" * 5000,
+    "report 18446744073709551616", "withdraw 018446744073709551616", "mark 18446744073709551616 0",
+    "mark 1 18446744073709551616", "enter 18446744073709551616 0 4 0 10 5 5", "enter 9 18446744073709551616 4 0 10 5 5",
+    "enter 9 0 18446744073709551616 0 10 5 5", "enter 9 0 4 18446744073709551616 10 5 5",
+    "enter 9 0 4 0 18446744073709551616 5 5", "enter 9 0 4 0 10 18446744073709551616 5",
+    "enter 9 0 4 0 10 5 5,18446744073709551616",
+    enter(9, 0, H, 0, 10, [5] * (MOST_NUMBERS + 1), [5]), enter(9, 0, H, 0, 10, [5], [5] * (MOST_NUMBERS + 1)),
+    # the first remark that fits, from left to right
+    "opne", "opne x", "open x x", "open 18446744073709551616 x", "mark x 18446744073709551616",
+    "mark 18446744073709551616 x", "enter 9 0 4 0 10 18446744073709551616,x 5",
+    "enter 9 0 4 0 10 x,18446744073709551616 5",
+    "enter 9 0 4 0 10 x " + word([5] * (MOST_NUMBERS + 1)), "enter 9 0 4 0 10 5" + ",x" * MOST_NUMBERS + " 5",
+    "enter 9 0 4 0 10 5 " + "," * MOST_NUMBERS, "enter 9 0 4 0 10 5 " + "," * (MOST_NUMBERS - 1),
+)
+
+
+def malformed(rng: Random, session: Session) -> Lines:
+    """Lines that are no calls, on a sheet not open and on one that stands; they change nothing."""
+    yield "# Lines that are no calls"
+    yield from ("open 99", *MALFORMED, *LOOK)
+    yield from (*a_thousand(), hatchway(5, 5), "undo", *MALFORMED, *LOOK_AND_REPORT, "redo", *LOOK)
+
+
+# Calls at random
+
+TONNAGE_LENGTHS = (1200, 1200, 1200, 600, 2000, 3000, 4800, 100, 1999, 5001)
+OFF_IDS = (0, 10_000, 65_535, 65_536, 65_537, 2**64 - 1)
+SIDES = ((1000, 1000), (500, 2000), (100, 10_000), (2500, 400), (20_000, 50))  # a length of n between them has n
+
+
+def new_id(rng: Random, sheet: Sheet, most: int) -> int:
+    """Mostly a free id up to the most, else one that stands or one out of range."""
+    ids = [space.id for space in sheet.spaces]
+    choice = rng.randrange(20)
+    if choice == 0:
+        return one_of(rng, OFF_IDS)
+    if choice == 1 and ids:
+        return one_of(rng, ids)
+    id = rng.randint(1, most)
+    while id in ids:
+        id = rng.randint(1, most + len(ids))
+    return id
+
+
+def an_id(rng: Random, sheet: Sheet, most: int) -> int:
+    """Mostly an id that stands."""
+    if sheet.spaces and rng.randrange(12):
+        return one_of(rng, [space.id for space in sheet.spaces])
+    return one_of(rng, (rng.randint(1, most), one_of(rng, OFF_IDS)))
+
+
+def a_standing(rng: Random, kind: int) -> int:
+    """Mostly one that the kind can take, often not plain where it can."""
+    if rng.randrange(40) == 0:
+        return one_of(rng, BEYOND_8)
+    if rng.randrange(12) == 0:
+        return one_of(rng, s.STANDINGS)
+    return {B: one_of(rng, (0, 0, 1)), S: one_of(rng, (0, 0, 1)), R: one_of(rng, (0, 0, 0, 1, 2, 2, 3))}.get(kind, 0)
+
+
+def outer_of(rng: Random, sheet: Sheet) -> s.Space | None:
+    """A space for a room, often one of the deepest, now and then a hatchway."""
+    outers = [space for space in sheet.spaces if space.kind != H or rng.randrange(8) == 0]
+    if not outers:
+        return None
+    if rng.randrange(3) == 0:
+        deepest = max(s.level(sheet.spaces, space) for space in outers)
+        outers = [space for space in outers if s.level(sheet.spaces, space) == deepest]
+    return one_of(rng, outers)
+
+
+def of_tonnage(rng: Random, tonnage: int) -> tuple[int, list[int], list[int]]:
+    """Length, height and breadth of an H or R of this tonnage."""
+    if not 0 < tonnage <= m.GREATEST_LENGTH:
+        return rng.randint(1, 9), [rng.randint(1, 99)], [rng.randint(1, 99)]
+    height, breadth = SIDES[rng.randrange(len(SIDES))]
+    return tonnage, [height], [breadth]
+
+
+def a_room(rng: Random, sheet: Sheet, id: int, most: int) -> tuple[int, int, list[int], list[int]]:
+    """An enclosing id, and measures that fill it, pass it by one or leave something."""
+    outer = outer_of(rng, sheet)
+    if outer is None or rng.randrange(12) == 0:
+        return one_of(rng, (id, 0, an_id(rng, sheet, most), one_of(rng, OFF_IDS))), *of_tonnage(rng, 1)
+    rest = outer.tonnage - s.tons(s.rooms(sheet.spaces, outer.id))
+    tonnage = one_of(rng, (0, rest, rest, rest + 1, rest // 2, rest * 2 // 3, rest // 3, rest // 3, 1))
+    return outer.id, *of_tonnage(rng, tonnage)
+
+
+def a_length(rng: Random, sheet: Sheet, kind: int) -> int:
+    """A length in range, for a U about what is left of the tonnage length, for an S mostly one in two parts."""
+    whole = sheet.length or 1200
+    if kind == B:
+        return one_of(rng, (whole, rng.randint(100, 6000)))
+    if kind == S:
+        return rng.randint(1, one_of(rng, (whole // 3, whole // 3, whole)))
+    rest = whole - s.under_deck_length(sheet.spaces)
+    lengths = [length for length in (rest, rest, rest + 1, rest - 100, 600, 100) if length >= 100]
+    if rest > 300:
+        lengths += [rng.randint(100, min(rest - 100, 2000))] * 4
+    return one_of(rng, lengths)
+
+
+def with_fault(rng: Random, values: list[int], beyond: int) -> list[int]:
+    """The values with one too many, one too few or one out of range."""
+    faulty = ([*values, values[0]], values[:-1], [*values[:-1], beyond], [*values, one_of(rng, BEYOND_32)])
+    return faulty[rng.randrange(len(faulty))]
+
+
+def entering(rng: Random, sheet: Sheet, most: int) -> Lines:
+    """An entry of any kind, a U more likely while one is wanted."""
+    short = s.under_deck_length(sheet.spaces) < sheet.length
+    kind = U if short and rng.randrange(3) == 0 else one_of(rng, (U, B, S, S, H, H, *[R] * 12))
+    id = new_id(rng, sheet, most)
+    within = one_of(rng, (0, an_id(rng, sheet, most)))
+    if kind == R:
+        within, length, heights, breadths = a_room(rng, sheet, id, most)
+    elif kind == H:
+        length, heights, breadths = of_tonnage(rng, rng.randint(0, 30))
+    else:
+        length = a_length(rng, sheet, kind)
+        space = figures.asked(rng, kind, sheet.length or 1200, length, one_of(rng, (99, 999, 1999)))
+        heights, breadths = list(space.heights), list(space.breadths)
+    fault = rng.randrange(60)
+    if fault == 0:
+        heights = with_fault(rng, heights, 20_001)
+    elif fault == 1:
+        breadths = with_fault(rng, breadths, 30_001)
+    elif fault == 2:
+        length = one_of(rng, (0, 150_001, *BEYOND_32))
+    elif fault == 3:
+        kind = one_of(rng, (0, 6, *BEYOND_8))
+    yield enter(id, within, kind, a_standing(rng, kind), length, heights, breadths)
+
+
+def withdrawing(rng: Random, sheet: Sheet, most: int) -> Lines:
+    """A withdrawal, half of the time of a space that encloses no room; now and then undone at once."""
+    free = [space.id for space in sheet.spaces if not s.rooms(sheet.spaces, space.id)]
+    yield withdraw(one_of(rng, free) if free and rng.randrange(2) else an_id(rng, sheet, most))
+    if rng.randrange(4) == 0:
+        yield from ("undo", "counts")
+
+
+def marking(rng: Random, sheet: Sheet, most: int) -> Lines:
+    """A mark, mostly of a room or another that can be other than plain."""
+    able = [space for space in sheet.spaces if space.kind in (B, S, R)]
+    if able and rng.randrange(6):
+        space = able[rng.randrange(len(able))]
+        yield mark(space.id, a_standing(rng, space.kind))
+    else:
+        yield mark(an_id(rng, sheet, most), one_of(rng, (0, 0, 1, 2, 3, 4)))
+
+
+def undoing(rng: Random, sheet: Sheet, most: int) -> Lines:
+    """Undos, now and then all that can be and one more; half of the time some of them made again at once."""
+    times = one_of(rng, (1, 1, 1, 2, 2, 3, 5, 8, 20, len(sheet.earlier) + 1))
+    yield from ["undo"] * times
+    if rng.randrange(2) == 0:
+        yield from ("spaces", *["redo"] * rng.randint(1, times), "counts")
+
+
+def redoing(rng: Random, sheet: Sheet, most: int) -> Lines:
+    """Redos, all that can be and one more now and then."""
+    yield from ["redo"] * one_of(rng, (1, min(len(sheet.later), 3), len(sheet.later), len(sheet.later) + 1))
+    if rng.randrange(3) == 0:
+        yield "spaces"
+
+
+def reporting(rng: Random, sheet: Sheet, most: int) -> Lines:
+    """A report, mostly not justified, or both ways."""
+    yield from (("report 0",), ("report 0", "report 1"), ("report 1",), ("report 0",))[rng.randrange(4)]
+    if rng.randrange(20) == 0:
+        yield f"report {one_of(rng, (2, *BEYOND_8))}"
+
+
+def looking(rng: Random, sheet: Sheet, most: int) -> Lines:
+    """The counts, and the spaces where they aren't many."""
+    yield "counts"
+    if len(sheet.spaces) <= 40 or rng.randrange(25) == 0:
+        yield "spaces"
+
+
+def saying_nothing(rng: Random, sheet: Sheet, most: int) -> Lines:
+    """A short line that is no call."""
+    short = [line for line in MALFORMED if line and line[0] != "#" and len(line) < 60]
+    yield short[rng.randrange(len(short))]
+
+
+MOVES: tuple[Callable[[Random, Sheet, int], Lines], ...] = (
+    (entering,) * 18 + (withdrawing,) * 3 + (marking,) * 6 + (undoing,) * 2 + (redoing,) + (reporting,) * 3
+    + (looking,) * 4 + (saying_nothing,)
+)
+BURST = (entering,) * 9 + (marking, looking)
+
+
+def walk(rng: Random, session: Session, most: int, moves: int) -> Lines:
+    """That many moves at random; ids are mostly up to the most. Stretches of entries let the sheet grow."""
+    for number in range(moves):
+        choices = BURST if number % 40 < 15 else MOVES
+        yield from choices[rng.randrange(len(choices))](rng, session.sheet, most)
+
+
+def walks(rng: Random, session: Session) -> Lines:
+    """Walks without end, each on a sheet of its own, now and then with calls on a sheet not open before it."""
+    while True:
+        if rng.randrange(4) == 0:
+            yield f"open {one_of(rng, (99, 150_001, *BEYOND_32))}"
+            yield from walk(rng, session, 9, 8)
+        yield f"open {one_of(rng, TONNAGE_LENGTHS)}"
+        yield from walk(rng, session, one_of(rng, (8, 30, 30, 300, 9_999)), rng.randint(60, 260))
+        yield from LOOK_AND_REPORT
+
+
+def crowded(rng: Random, session: Session) -> Lines:
+    """A walk about the two hundredth space."""
+    yield "# Calls at random on a crowded sheet"
+    yield from twenty_thousand()
+    for id in range(11, 11 + s.PLACES - 13):
+        yield room(id, one_of(rng, (1, 2, 3, 3, max(id - 7, 1))) if id > 20 else 1, 0 if id % 3 else 20 - id % 20)
+    yield from walk(rng, session, 400, 200)
+    yield from LOOK_AND_REPORT
+
+
+# Scripts
+
+SECTIONS: tuple[Section, ...] = (
+    not_open, openings, paper_sheet, hatchways, ballast, reports, kinds_by_standings, all_at_once, ranges, levels,
+    sums_of_rooms, sums_of_lengths, two_hundred, sixty_four, redo_after, order_of_entry, ids_again, not_plain,
+    malformed, crowded,
+)
+SEEDS = range(69_107, 69_117)  # of the walks behind the sections
+CALLS_OF_A_WALK = 150
+MOST_UNSEEN = 10  # lines without a look at what they did
+FEW_SPACES = 30  # so many that they are looked at then
+
+
+def lines_of(section: Lines, session: Session) -> Lines:
+    """The section's lines, each answered before the next is made; a look where there was none for a while."""
+    unseen = 0
+    for line in section:
+        answer = session.answer(line)
+        yield line
+        looked = line.startswith(("counts", "spaces", "report ")) and answer[0] != "?"
+        unseen = 0 if looked else unseen + (answer is not None)
+        if unseen == MOST_UNSEEN:
+            yield from ("counts", "report 0", *["spaces"] * (len(session.sheet.spaces) <= FEW_SPACES))
+            unseen = 0
+
+
+def script(seed: int, calls: int) -> str:
+    """A script of that many calls at random, the same for the same seed."""
+    session = Session()
+    lines = [f"# {calls} calls at random, seed {seed}", *islice(lines_of(walks(Random(seed), session), session), calls)]
+    return "".join(line + "\n" for line in lines)
+
+
+def standard() -> str:
+    """Every section of edges and some walks, the same every time."""
+    rng, session = Random(69), Session()
+    edges = (line + "\n" for section in SECTIONS for line in lines_of(section(rng, session), session))
+    return "".join(edges) + "".join(script(seed, CALLS_OF_A_WALK) for seed in SEEDS)
+
+
+def main() -> int:
+    """Prints the standard script, or one at random."""
+    if not sys.argv[1:]:
+        sys.stdout.write(standard())
+    elif len(sys.argv) == 3 and all(argument.isascii() and argument.isdigit() for argument in sys.argv[1:]):
+        sys.stdout.write(script(int(sys.argv[1]), int(sys.argv[2])))
+    else:
+        print("usage: python3 -m reference.scripts [SEED CALLS]", file=sys.stderr)
+        return 2
+    return 0
+
+
+if __name__ == "__main__":
+    sys.exit(main())

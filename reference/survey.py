@@ -1,0 +1,169 @@
+"""The text protocol of the program `survey`: a script of calls on one current sheet, and their answers.
+
+    python3 -m reference.survey < script            prints the answers
+
+A line ends with a newline (the last one may end with the script). An empty line and a line that begins with '#' have
+no answer; every other line has one. Words are what stands between single spaces, so two spaces have an empty word
+between them and a space at an end of the line an empty word beside it.
+
+A line that is no call is answered by '?' and a remark, and changes nothing. It is judged in this order, and the first
+remark that fits is given:
+    ? unknown call              the first word is no call (an empty one neither)
+    ? wrong number of words     the call has another number of words
+then the words behind the call from left to right, each
+    ? not a number              a number that isn't one or more of the digits 0 to 9
+    ? number too large          a number above 2^64-1 (zeros in front are no matter)
+    ? list too long             a list of more than 1,024 numbers, counted by its commas, whatever stands between them;
+                                then each number of a list, from left to right, as above; '-' is the empty list
+Every word is judged so, an enclosing id too that isn't read.
+    ? script too long           the only answer to a script over 1,048,576 bytes, of which no call is made
+    ? not yet                   the calls on files, whatever words they have
+"""
+
+import sys
+from typing import Any, Callable
+
+from reference import sheet as s
+from reference.sheet import Sheet, Space
+
+UNKNOWN_CALL = "? unknown call"
+WRONG_NUMBER_OF_WORDS = "? wrong number of words"
+NOT_A_NUMBER = "? not a number"
+NUMBER_TOO_LARGE = "? number too large"
+LIST_TOO_LONG = "? list too long"
+SCRIPT_TOO_LONG = "? script too long"
+NOT_YET = "? not yet"
+REMARKS = (
+    UNKNOWN_CALL, WRONG_NUMBER_OF_WORDS, NOT_A_NUMBER, NUMBER_TOO_LARGE, LIST_TOO_LONG, SCRIPT_TOO_LONG, NOT_YET
+)
+
+MOST_BYTES = 1_048_576
+MOST_NUMBERS = 1_024
+GREATEST_NUMBER = 2**64 - 1
+GREATEST_ID = 2**16 - 1
+GREATEST_CODE = 2**8 - 1  # of a kind, a standing and a justified mark
+GREATEST_MEASURE = 2**32 - 1
+
+
+class NoCall(Exception):
+    """A line that is no call; its remark is the argument."""
+
+
+# Arguments. A value above the greatest of its type is handed on as that greatest value, which is out of range too.
+
+def number(word: str) -> int:
+    """One or more digits, with a value up to 2^64-1."""
+    if not (word.isascii() and word.isdigit()):
+        raise NoCall(NOT_A_NUMBER)
+    digits = word.lstrip("0") or "0"
+    if len(digits) > len(str(GREATEST_NUMBER)) or int(digits) > GREATEST_NUMBER:
+        raise NoCall(NUMBER_TOO_LARGE)
+    return int(digits)
+
+
+def an_id(word: str) -> int:
+    """An id to enter, withdraw or mark, or an enclosing id."""
+    return min(number(word), GREATEST_ID)
+
+
+def a_code(word: str) -> int:
+    """A kind, a standing or a justified mark."""
+    return min(number(word), GREATEST_CODE)
+
+
+def a_measure(word: str) -> int:
+    """A length, depth, height or breadth."""
+    return min(number(word), GREATEST_MEASURE)
+
+
+def measures(word: str) -> list[int]:
+    """Measures joined by commas, or '-' for none."""
+    if word == "-":
+        return []
+    words = word.split(",")
+    if len(words) > MOST_NUMBERS:
+        raise NoCall(LIST_TOO_LONG)
+    return [a_measure(one) for one in words]
+
+
+# Calls: how the words behind each are read, and what it answers: its number, its values and the sheet after it.
+
+Answer = tuple[Any, ...]
+
+
+def of_space(space: Space) -> str:
+    """ID:WITHIN:KIND:STANDING:TONNAGE:LENGTH."""
+    values = (space.id, space.within, space.kind, space.standing, space.tonnage, space.length)
+    return ":".join(map(str, values))
+
+
+def spaces(sheet: Sheet) -> Answer:
+    """0 OPEN L COUNT SPACE SPACE ..."""
+    return s.ACCEPTED, int(sheet.is_open), sheet.length, len(sheet.spaces), *map(of_space, sheet.spaces), sheet
+
+
+CALLS: dict[str, tuple[tuple[Callable[[str], Any], ...], Callable[..., Answer]]] = {
+    "open": ((a_measure,), lambda sheet, length: s.open_sheet(length)),
+    "enter": ((an_id, an_id, a_code, a_code, a_measure, measures, measures), s.enter),
+    "withdraw": ((an_id,), s.withdraw),
+    "mark": ((an_id, a_code), s.mark),
+    "undo": ((), s.undo),
+    "redo": ((), s.redo),
+    "counts": ((), s.counts),
+    "report": ((a_code,), s.report),
+    "spaces": ((), spaces),
+}
+
+# The calls on files have no rows above yet: this is their place. The rows for them end NOT_YET and this line.
+CALLS_ON_FILES = ("write", "writef", "read")
+
+
+class Session:
+    """One current sheet, not open at the start."""
+
+    def __init__(self) -> None:
+        self.sheet = s.CLOSED
+
+    def answer(self, line: str) -> str | None:
+        """The answer to one line, None where it has none."""
+        if not line or line.startswith("#"):
+            return None
+        try:
+            return self.call(line.split(" "))
+        except NoCall as no_call:
+            return str(no_call)
+
+    def call(self, words: list[str]) -> str:
+        """Makes the call of a line's words; where they are none, NoCall is raised and nothing is changed."""
+        name, *behind = words
+        if name in CALLS_ON_FILES:
+            raise NoCall(NOT_YET)
+        if name not in CALLS:
+            raise NoCall(UNKNOWN_CALL)
+        readers, make = CALLS[name]
+        if len(behind) != len(readers):
+            raise NoCall(WRONG_NUMBER_OF_WORDS)
+        *values, self.sheet = make(self.sheet, *(read(word) for read, word in zip(readers, behind)))
+        return " ".join(map(str, values))
+
+    def answers(self, text: str) -> str:
+        """The answers to all lines of a script, each on its line; a character of the text is a byte."""
+        if len(text) > MOST_BYTES:
+            return SCRIPT_TOO_LONG + "\n"
+        given = (self.answer(line) for line in text.split("\n"))
+        return "".join(one + "\n" for one in given if one is not None)
+
+
+def answers(text: str) -> str:
+    """The answers to a whole script."""
+    return Session().answers(text)
+
+
+def main() -> int:
+    """Prints the answers to the script on standard input; latin-1 has a character for every byte."""
+    sys.stdout.write(answers(sys.stdin.buffer.read().decode("latin-1")))
+    return 0
+
+
+if __name__ == "__main__":
+    sys.exit(main())

@@ -1,0 +1,1135 @@
+"""Tests of the sheet, its protocol and its scripts: the paper's figures, the readings, invariants, edges visited."""
+
+import io
+import unittest
+from contextlib import redirect_stderr, redirect_stdout
+from dataclasses import FrozenInstanceError, dataclass, replace
+from functools import cache, cached_property
+from itertools import combinations
+from typing import Any, Iterator
+from unittest import mock
+
+from reference import measure as m, scripts, sheet as s, survey
+from reference.measure import B, H, R, S, U
+from reference.scripts import a_thousand, chain, divided, enter, hatchway, mark, room, twenty_thousand, withdraw
+from reference.sheet import BALLAST, DEDUCTED, EXEMPT, PLAIN, Sheet, Space
+from reference.survey import Session
+
+CHANGES = ("enter", "withdraw", "mark")
+LOOKS = ("counts", "spaces", "report")
+
+
+@dataclass(frozen=True)
+class Step:
+    """A line of a script that has an answer."""
+
+    before: Sheet
+    line: str
+    answer: str
+    after: Sheet
+
+    @cached_property
+    def words(self) -> list[str]:
+        """The words of the line."""
+        return self.line.split(" ")
+
+    @property
+    def call(self) -> str:
+        """The first word of the line."""
+        return self.words[0]
+
+    @cached_property
+    def number(self) -> int | None:
+        """The number answered, None for a remark."""
+        return None if self.answer.startswith("?") else int(self.answer.split(" ")[0])
+
+    @cached_property
+    def arguments(self) -> list[Any]:
+        """The arguments of a call as the library gets them."""
+        return [read(word) for read, word in zip(survey.CALLS[self.call][0], self.words[1:])]
+
+    @cached_property
+    def new(self) -> Space:
+        """The space that an entry hands in."""
+        return s.new_space(self.before, *self.arguments)
+
+
+def steps(text: str) -> list[Step]:
+    """A script, line by line."""
+    session, found = Session(), []
+    for line in text.split("\n"):
+        before = session.sheet
+        answer = session.answer(line)
+        if answer is not None:
+            found.append(Step(before, line, answer, session.sheet))
+    return found
+
+
+@cache
+def standard_steps() -> list[Step]:
+    """The standard script, line by line."""
+    return steps(scripts.standard())
+
+
+class OfCalls(unittest.TestCase):
+    """Lines and their answers, on one session a test."""
+
+    def setUp(self) -> None:
+        self.session = Session()
+
+    def given(self, *lines: str) -> list[str]:
+        """The answers to the lines."""
+        return [self.session.answer(line) for line in lines]
+
+    def asks(self, line: str, answer: str) -> None:
+        """One line and the answer it must have."""
+        self.assertEqual(self.session.answer(line), answer, msg=line)
+
+    def accepted(self, *lines: str) -> None:
+        """Lines that must be accepted."""
+        for line, answer in zip(lines, self.given(*lines)):
+            self.assertEqual(answer.split(" ")[0], "0", msg=line)
+
+    def refused(self, number: int, *lines: str) -> None:
+        """Lines that must be refused with a number and leave the sheet as it came."""
+        before = self.session.sheet
+        for line, answer in zip(lines, self.given(*lines)):
+            self.assertEqual(answer.split(" ")[0], str(number), msg=line)
+        self.assertEqual(self.session.sheet, before)
+
+    def ids(self) -> list[int]:
+        """The ids of the standing spaces in order of entry."""
+        return [space.id for space in self.session.sheet.spaces]
+
+
+class FiguresOfThePaper(OfCalls):
+    """'Figures to meet' and 'Errors a good surveyor has made', as far as they speak of a sheet."""
+
+    WHOLE = (
+        "open 4800", divided(1, U, 4800, 4800, 1200, 2000), divided(2, S, 4800, 1600, 800, 1000),
+        enter(3, 1, R, 2, 1000, [400], [1000]), enter(4, 2, R, 3, 800, [800], [500]),
+        enter(5, 0, H, 0, 500, [500], [400]),
+    )
+
+    def test_whole_sheet(self) -> None:
+        self.accepted(*self.WHOLE)
+        self.asks("report 0", "0 12439 12119")
+        self.asks("report 1", "0 12439 12119")
+        self.asks("spaces", "0 1 4800 5 1:0:1:0:11521:4800 2:0:3:0:1280:1600 3:1:5:2:400:1000 4:2:5:3:320:800 "
+                            "5:0:4:0:100:500")
+        self.asks("counts", "0 5 0")
+
+    def test_whole_sheet_by_calls(self) -> None:
+        number, sheet = s.open_sheet(4800)
+        for id, within, kind, standing, length, height, breadth in (
+            (1, 0, U, 0, 4800, 1200, 2000), (2, 0, S, 0, 1600, 800, 1000), (3, 1, R, 2, 1000, 400, 1000),
+            (4, 2, R, 3, 800, 800, 500), (5, 0, H, 0, 500, 500, 400),
+        ):
+            count = {U: (7, 35), S: (3, 3)}.get(kind, (1, 1))
+            number, sheet = s.enter(
+                sheet, id, within, kind, standing, length, [height] * count[0], [breadth] * count[1]
+            )
+            self.assertEqual(number, 0)
+        self.assertEqual(s.report(sheet, 0), (0, 12439, 12119, sheet))
+        self.assertEqual((s.t(sheet.spaces), s.e(sheet.spaces), s.d(sheet.spaces)), (12801, 400, 320))
+        self.assertEqual(s.counts(sheet), (0, 5, 0, sheet))
+
+    def test_excess(self) -> None:
+        self.accepted(*twenty_thousand(), hatchway(4, 100))
+        self.assertEqual(s.t(self.session.sheet.spaces), 20000)
+        self.asks("report 0", "0 20000 20000")
+        self.accepted(hatchway(5, 1))
+        self.asks("report 0", "0 20001 20001")
+
+    def test_ballast(self) -> None:
+        self.accepted(*a_thousand(), room(4, 1, 300, BALLAST))
+        self.assertEqual(s.gross_for_ballast(self.session.sheet.spaces), 1000)
+        self.asks("report 0", "0 700 700")
+        self.accepted(room(5, 1, 1, BALLAST))
+        self.asks("report 0", "14 0 0")
+        self.asks("report 1", "0 699 699")
+
+    def test_levels(self) -> None:
+        for outer in (divided(1, U, 1200, 600, 1200, 500), divided(1, B, 1200, 900, 500, 500),
+                      divided(1, S, 1200, 300, 933, 1000)):
+            for tonnage in (0, 100):
+                self.accepted("open 1200", outer, *chain(1, 2, 7, tonnage))
+                spaces = self.session.sheet.spaces
+                self.assertEqual([s.level(spaces, space) for space in spaces], [1, 2, 3, 4, 5, 6, 7, 8])
+                self.refused(7, room(9, 8, tonnage), room(9, 8, 0, EXEMPT), room(9, 8, 101))
+                self.accepted(room(9, 7))
+
+    def test_65_changes_then_65_undos(self) -> None:
+        self.accepted("open 1200", *(hatchway(id, id) for id in range(1, 66)))
+        self.asks("counts", "0 64 0")
+        self.assertEqual(self.given(*["undo"] * 65), ["0"] * 64 + ["12"])
+        self.asks("spaces", "0 1 1200 1 1:0:4:0:1:1")
+        self.asks("counts", "0 0 64")
+        self.assertEqual(self.given(*["redo"] * 65), ["0"] * 64 + ["12"])
+        self.assertEqual(self.ids(), list(range(1, 66)))
+
+    def test_error_of_the_order(self) -> None:
+        """Undoing a withdrawal by entering the space again at the end of the order."""
+        self.accepted("open 1200", *(hatchway(id, id) for id in (7, 3, 9, 1)))
+        before = self.session.sheet
+        self.accepted(withdraw(3))
+        self.assertEqual(self.ids(), [7, 9, 1])
+        self.accepted("undo")
+        self.assertEqual(self.session.sheet.spaces, before.spaces)
+        self.accepted(withdraw(3), hatchway(3, 3))
+        self.assertEqual(self.ids(), [7, 9, 1, 3])
+
+    def test_error_of_the_half_percent(self) -> None:
+        """The half percent isn't taken from a gross that already has the hatchways in it."""
+        self.accepted(*twenty_thousand(), hatchway(4, 200))
+        self.asks("report 0", "0 20100 20100")
+
+
+class ReadingsOfEntries(OfCalls):
+    """How the open points are read that speak of opening and of entries."""
+
+    def test_every_measure_is_judged(self) -> None:
+        self.accepted("open 1200", divided(1, U, 1200, 600, 1200, 500))
+        for kind, count in ((U, (3, 15)), (B, (7, 7)), (S, (3, 3)), (H, (1, 1)), (R, (1, 1))):
+            heights, breadths = [50] * count[0], [50] * count[1]
+            self.refused(2, enter(9, 1, kind, 0, 300, heights, [*breadths, 30_001]))
+            self.refused(2, enter(9, 1, kind, 0, 300, [*heights, 20_001], breadths))
+            self.refused(2, enter(9, 1, kind, 0, 300, [], [30_001]), enter(9, 1, kind, 0, 300, [20_001], []))
+            self.refused(3, enter(9, 1, kind, 0, 300, heights, [*breadths, 30_000]))
+            self.refused(3, enter(9, 1, kind, 0, 300, [*heights, 20_000], breadths))
+            self.refused(2 if kind in (H, R) else 3, enter(9, 1, kind, 0, 300, [*heights, 0], breadths))
+            self.refused(2 if kind in (H, R) else 3, enter(9, 1, kind, 0, 300, heights, [*breadths, 0]))
+
+    def test_greatest_measures_of_hatchways_and_rooms(self) -> None:
+        self.accepted("open 1200", enter(1, 0, H, 0, 150_000, [20_000], [30_000]))
+        self.asks("spaces", "0 1 1200 1 1:0:4:0:90000000:150000")
+        self.refused(2, enter(2, 0, H, 0, 1, [20_001], [1]), enter(2, 0, H, 0, 1, [1], [30_001]))
+        self.refused(2, enter(2, 0, H, 0, 1, [0], [1]), enter(2, 0, H, 0, 1, [1], [0]), enter(2, 0, H, 0, 0, [1], [1]))
+
+    def test_enclosing_id_is_read_only_for_a_room(self) -> None:
+        self.accepted("open 1200", divided(1, U, 1200, 600, 1200, 500), hatchway(2, 5))
+        for kind, count in ((U, (3, 15)), (B, (7, 7)), (S, (3, 3)), (H, (1, 1))):
+            for within in (1, 2, 3, 77, 10_000, 2**64 - 1):
+                self.accepted(enter(3, within, kind, 0, 300, [50] * count[0], [50] * count[1]))
+                self.assertEqual(self.session.sheet.spaces[-1].within, 0)
+                self.accepted("undo")
+
+    def test_ids_out_of_range(self) -> None:
+        """A new id is 4; an enclosing id and one to withdraw or mark is 5."""
+        self.accepted("open 1200", divided(1, U, 1200, 600, 1200, 500))
+        for id in (0, 10_000, 65_535, 65_536, 65_537, 2**64 - 1):
+            self.refused(4, hatchway(id, 5))
+            self.refused(5, room(2, id, 5), withdraw(id), mark(id, 0))
+        self.accepted(hatchway(9_999, 5))
+
+    def test_own_id_as_enclosing_id(self) -> None:
+        self.accepted("open 1200", divided(1, U, 1200, 600, 1200, 500))
+        self.refused(5, room(2, 2, 5))
+        self.refused(4, room(1, 1, 5))
+
+    def test_under_deck_longer_than_the_tonnage_length(self) -> None:
+        self.accepted("open 3000")
+        self.refused(3, scripts.under_deck(1, 3001, 7), scripts.under_deck(1, 3000, 5))
+        self.refused(9, scripts.under_deck(1, 3001, 5))
+        self.accepted(scripts.under_deck(1, 100, 3))
+        self.refused(9, scripts.under_deck(2, 3000, 7))
+        self.refused(3, scripts.under_deck(2, 3000, 5))
+
+    def test_short_tonnage_length(self) -> None:
+        self.accepted("open 1200")
+        self.refused(3, scripts.under_deck(1, 1200, 3))
+        self.accepted(scripts.under_deck(1, 1200, 7), "report 0")
+
+    def test_superstructure_whatever_under_deck_stands(self) -> None:
+        for first in ("open 1200", scripts.under_deck(1, 600, 3), scripts.under_deck(2, 600, 3)):
+            self.accepted(first, divided(3, S, 1200, 1200, 500, 500), "undo")
+            self.refused(3, enter(3, 0, S, 0, 1200, [500] * 3, [500] * 3))
+
+    def test_entry_looks_only_above(self) -> None:
+        self.accepted(*a_thousand(), room(4, 1, 50, EXEMPT))
+        self.refused(8, *(room(5, 4, 1, standing) for standing in (EXEMPT, BALLAST, DEDUCTED)))
+        self.accepted(room(5, 4, 1), room(6, 1, 50, BALLAST), room(7, 2, 50, DEDUCTED))
+        self.refused(8, room(8, 5, 1, EXEMPT))
+
+    def test_numbers_that_cannot_be_judged(self) -> None:
+        """They count as not applying; a lower number applies where they can't be judged."""
+        self.accepted(*a_thousand(), hatchway(4, 5))
+        self.refused(2, enter(9, 0, 7, 0, 100, [], []), enter(9, 4, R, 7, 1, [1], [1]), enter(9, 3, S, 4, 9, [], []))
+        self.refused(3, enter(9, 1, R, 0, 150_000, [20_000] * 2, [30_000]))
+        self.refused(5, room(9, 77, 150_000, EXEMPT))
+        self.refused(2, mark(77, 4), mark(4, 4), "report 2")
+        judged = s.numbers_of_entry(self.session.sheet, Space(9, 77, R, 1, 0, 1), [1, 1], [1])
+        self.assertEqual(judged, {3, 5})
+        self.assertEqual(s.numbers_of_entry(self.session.sheet, Space(9, 4, 9, 9, 0, 1), [], []), {2})
+        self.assertEqual(s.numbers_of_mark(self.session.sheet, 77, 9), {2, 5})
+        self.assertEqual(s.numbers_of_report(self.session.sheet, 2), {2})
+
+    def test_a_full_sheet_gives_10_last(self) -> None:
+        self.accepted(*a_thousand(), *chain(1, 4, 7, 50), mark(9, EXEMPT), hatchway(11, 5))
+        self.accepted(*(room(id, 2) for id in range(1000, 1000 + s.PLACES - 11)))
+        self.assertEqual(len(self.session.sheet.spaces), 200)
+        self.refused(10, room(999, 2), hatchway(999, 1), divided(999, S, 1200, 300, 933, 1000))
+        for number, line in (
+            (2, enter(999, 2, R, 0, 0, [1], [1])), (3, enter(999, 2, R, 0, 1, [], [1])), (4, room(4, 2)),
+            (5, room(999, 77)), (6, room(999, 11)), (7, room(999, 10)), (8, room(999, 9, 0, EXEMPT)),
+            (9, room(999, 2, 361)),
+        ):
+            self.refused(number, line)
+
+    def test_rooms_of_nothing(self) -> None:
+        self.accepted("open 1200", divided(1, U, 1200, 600, 0, 500), divided(2, U, 1200, 600, 1200, 500))
+        self.accepted(room(3, 2, 360), room(4, 2), room(5, 1), room(6, 5))
+        self.refused(9, room(7, 2, 1), room(7, 1, 1), room(7, 6, 1))
+        self.refused(11, withdraw(5))
+        self.accepted(*chain(6, 10, 5, 0), mark(6, EXEMPT))
+        self.refused(7, room(15, 14))
+        self.refused(8, mark(5, EXEMPT), mark(12, BALLAST), room(15, 13, 0, DEDUCTED))
+
+    def test_sums_are_of_rooms_directly_inside(self) -> None:
+        self.accepted(*a_thousand(), room(4, 1, 360), room(5, 4, 360, EXEMPT), room(6, 5, 300), room(7, 5, 60))
+        self.refused(9, room(8, 1, 1), room(8, 4, 1), room(8, 5, 1))
+        self.accepted(room(8, 6, 300), withdraw(7), room(9, 5, 60))
+
+    def test_sums_of_all_standings(self) -> None:
+        self.accepted(*a_thousand(), room(4, 1, 100), room(5, 1, 100, EXEMPT), room(6, 1, 100, DEDUCTED))
+        self.refused(9, room(7, 1, 61), room(7, 1, 61, BALLAST))
+        self.accepted(room(7, 1, 60, BALLAST))
+
+    def test_lengths_of_under_deck_parts(self) -> None:
+        self.accepted("open 1200", scripts.under_deck(1, 600, 3))
+        self.refused(9, scripts.under_deck(2, 601, 3))
+        self.accepted(scripts.under_deck(2, 600, 3))
+        self.refused(9, scripts.under_deck(3, 100, 3))
+        self.accepted(divided(3, B, 1200, 150_000, 1, 1), divided(4, S, 1200, 1300, 1, 1), hatchway(5, 1300))
+
+    def test_kinds_by_standings(self) -> None:
+        takes = {U: (0,), B: (0, 1), S: (0, 1), H: (0,), R: (0, 1, 2, 3)}
+        count = {U: (3, 15), B: (7, 7), S: (3, 3), H: (1, 1), R: (1, 1)}
+        self.accepted("open 1200", divided(1, U, 1200, 600, 1200, 500))
+        for kind in m.KINDS:
+            for standing in range(4):
+                line = enter(9, 1, kind, standing, 100, [50] * count[kind][0], [50] * count[kind][1])
+                if standing in takes[kind]:
+                    self.accepted(line, withdraw(9))
+                else:
+                    self.refused(6, line)
+            self.accepted(enter(9, 1, kind, 0, 100, [50] * count[kind][0], [50] * count[kind][1]))
+            for standing in range(4):
+                if standing in takes[kind]:
+                    self.accepted(mark(9, standing))
+                else:
+                    self.refused(6, mark(9, standing))
+            self.refused(2, mark(9, 4), mark(9, 255), mark(9, 256))
+            self.accepted(withdraw(9))
+
+    def test_hatchway_encloses_nothing(self) -> None:
+        self.accepted("open 1200", hatchway(1, 50))
+        self.refused(6, room(2, 1), room(2, 1, 50), room(2, 1, 51), room(2, 1, 0, EXEMPT))
+
+    def test_opening(self) -> None:
+        for length in (0, 99, 150_001, 2**32 - 1, 2**32 + 1200, 2**64 - 1):
+            self.accepted("open 1200", hatchway(1, 5))
+            self.asks(f"open {length}", "2")
+            self.assertEqual(self.given("spaces", "counts", "report 0"), ["0 0 0 0", "0 0 0", "1 0 0"])
+        for length in (100, 150_000):
+            self.asks(f"open {length}", "0")
+            self.asks("spaces", f"0 1 {length} 0")
+
+    def test_a_sheet_not_open(self) -> None:
+        for first in ("", "open 99"):
+            self.given(first)
+            self.refused(
+                1, hatchway(1, 5), enter(0, 0, 9, 9, 0, [], []), withdraw(1), withdraw(0), mark(1, 0), mark(1, 4),
+                "undo", "redo", "report 0", "report 1", "report 2",
+            )
+            self.assertEqual(self.given("spaces", "counts"), ["0 0 0 0", "0 0 0"])
+        self.assertEqual(self.session.sheet, s.CLOSED)
+
+    def test_several_under_deck_parts_and_levels(self) -> None:
+        """Several U of one length and several B; a B, S, H or R may be longer than the tonnage length."""
+        self.accepted("open 1200", *(scripts.under_deck(id, 400, 3) for id in (1, 2, 3)))
+        self.accepted(*(divided(id, B, 1200, 1300, 50, 50) for id in (4, 5)), divided(6, S, 1200, 1300, 50, 50))
+        self.accepted(hatchway(7, 1300), enter(8, 4, R, 0, 1300, [1], [1]), "report 0")
+
+
+class ReadingsOfChanges(OfCalls):
+    """How the open points are read that speak of changes, undo and redo."""
+
+    def test_mark_of_the_same_standing(self) -> None:
+        self.accepted(*a_thousand(), hatchway(4, 5), "undo")
+        self.asks("counts", "0 3 1")
+        before = self.session.sheet.spaces
+        self.accepted(mark(1, PLAIN))
+        self.assertEqual(self.session.sheet.spaces, before)
+        self.asks("counts", "0 4 0")
+        self.refused(12, "redo")
+        self.accepted(hatchway(4, 5), mark(4, PLAIN), "undo", "undo", "undo")
+        self.asks("counts", "0 3 3")
+
+    def test_one_not_plain_standing_for_another(self) -> None:
+        self.accepted(*a_thousand(), room(4, 1, 50, EXEMPT), room(5, 4, 10))
+        self.accepted(*(mark(4, standing) for standing in (2, 3, 1, 1, 3, 2)), mark(5, PLAIN))
+        self.refused(8, mark(5, EXEMPT))
+        self.accepted(mark(4, PLAIN), mark(5, EXEMPT), mark(4, PLAIN))
+        self.refused(8, mark(4, EXEMPT))
+
+    def test_not_plain_at_all_levels(self) -> None:
+        self.accepted("open 1200", divided(1, S, 1200, 300, 933, 1000), *chain(1, 2, 7, 40), room(9, 3, 0))
+        for upper, lower in combinations(range(1, 9), 2):
+            self.accepted(mark(upper, EXEMPT))
+            self.refused(8, *(mark(lower, standing) for standing in (1, 2, 3)))
+            self.accepted(mark(lower, PLAIN), mark(upper, PLAIN), mark(lower, DEDUCTED))
+            self.refused(8, mark(upper, EXEMPT))
+            self.accepted(mark(upper, PLAIN), mark(lower, PLAIN))
+        self.accepted(mark(9, EXEMPT), mark(4, BALLAST))  # beside one another
+        self.refused(8, mark(3, DEDUCTED))
+        self.refused(6, mark(1, BALLAST))  # 8 applies too
+
+    def test_redo_after_calls_that_change_nothing(self) -> None:
+        self.accepted(*a_thousand(), room(4, 1, 50), "undo")
+        for line in (
+            "report 0", "report 2", "counts", "spaces", "redo 1", "nothing", room(1, 1, 1), withdraw(77), mark(1, 1),
+            room(5, 1, 361),
+        ):
+            self.given(line)
+            self.accepted("redo", "undo")
+        self.accepted("undo", "undo", "undo")
+        self.refused(12, "undo")
+        self.accepted("redo", "redo", "redo", "redo")
+        self.refused(12, "redo")
+        self.assertEqual(self.ids(), [1, 2, 3, 4])
+
+    def test_64_changes_10_undos_one_change(self) -> None:
+        self.accepted("open 1200", *(hatchway(id, id) for id in range(1, 65)), *["undo"] * 10)
+        self.asks("counts", "0 54 10")
+        self.accepted(hatchway(100, 5))
+        self.asks("counts", "0 55 0")
+        self.refused(12, "redo")
+        self.assertEqual(self.ids(), [*range(1, 55), 100])
+        self.accepted(*["undo"] * 55)
+        self.refused(12, "undo")
+        self.assertEqual(self.ids(), [])
+
+    def test_changes_pushed_out_stay_made(self) -> None:
+        self.accepted("open 1200", *(hatchway(id, id) for id in range(1, 71)), *["undo"] * 64)
+        self.refused(12, "undo")
+        self.assertEqual(self.ids(), [1, 2, 3, 4, 5, 6])
+        self.accepted(*["redo"] * 64)
+        self.asks("counts", "0 64 0")
+        self.accepted(withdraw(1), *["undo"] * 64)
+        self.assertEqual(self.ids(), [1, 2, 3, 4, 5, 6, 7])
+
+    def test_freed_places_and_order(self) -> None:
+        self.accepted("open 1200", *(hatchway(id, 1) for id in range(1, 201)))
+        self.refused(10, hatchway(201, 1))
+        self.accepted(withdraw(50), hatchway(201, 1))
+        self.refused(10, hatchway(50, 1))
+        self.assertEqual(self.ids(), [*range(1, 50), *range(51, 202)])
+        self.accepted("undo", "undo", "redo", "redo")
+        self.assertEqual(self.ids(), [*range(1, 50), *range(51, 202)])
+
+    def test_ids_again(self) -> None:
+        """After a withdrawal and after an undone entry, of another kind too; it comes last in order."""
+        self.accepted(*a_thousand(), hatchway(4, 5), hatchway(5, 5), withdraw(4), room(4, 1, 20, EXEMPT))
+        self.assertEqual(self.ids(), [1, 2, 3, 5, 4])
+        self.refused(4, hatchway(4, 5))
+        self.accepted("undo", "undo")
+        self.assertEqual([space.kind for space in self.session.sheet.spaces], [U, U, S, H, H])
+        self.accepted("redo", "redo", "undo", divided(4, B, 1200, 1200, 50, 50))
+        self.refused(12, "redo")
+        self.assertEqual(self.session.sheet.spaces[-1].kind, B)
+
+    def test_withdrawal_of_a_space_that_encloses(self) -> None:
+        self.accepted(*a_thousand(), room(4, 1), room(5, 4))
+        self.refused(11, withdraw(1), withdraw(4))
+        self.accepted(withdraw(5), withdraw(4), withdraw(1))
+        self.refused(5, withdraw(1), mark(1, 0), room(4, 1))
+
+    def test_undo_of_withdrawals_in_the_middle(self) -> None:
+        self.accepted("open 1200", *(hatchway(id, id) for id in range(1, 8)))
+        states = [self.session.sheet.spaces]
+        for id in (3, 5, 1, 7):
+            self.accepted(withdraw(id))
+            states.append(self.session.sheet.spaces)
+        for state in states[-2::-1]:
+            self.accepted("undo")
+            self.assertEqual(self.session.sheet.spaces, state)
+        for state in states[1:]:
+            self.accepted("redo")
+            self.assertEqual(self.session.sheet.spaces, state)
+
+    def test_undo_of_a_mark(self) -> None:
+        self.accepted(*a_thousand(), room(4, 1, 50), mark(4, EXEMPT), mark(4, BALLAST), "undo")
+        self.assertEqual(self.session.sheet.spaces[-1].standing, EXEMPT)
+        self.accepted("undo")
+        self.assertEqual(self.session.sheet.spaces[-1].standing, PLAIN)
+        self.accepted("redo", "redo")
+        self.assertEqual(self.session.sheet.spaces[-1].standing, BALLAST)
+
+    def test_sheets_are_values(self) -> None:
+        """A call leaves the sheet it takes as it was."""
+        self.accepted(*a_thousand())
+        before = self.session.sheet
+        copy = replace(before)
+        _, after = s.withdraw(before, 2)
+        self.assertEqual(before, copy)
+        self.assertNotEqual(after, before)
+        with self.assertRaises(FrozenInstanceError):
+            before.length = 1
+        with self.assertRaises(FrozenInstanceError):
+            before.spaces[0].standing = 1
+
+
+class ReadingsOfReports(OfCalls):
+    """How the open points are read that speak of gross, net and ballast."""
+
+    def test_what_counts_where(self) -> None:
+        """T: U, B and S of any standing. E: B, S and R. D: R. Plain rooms count nowhere."""
+        self.accepted(*a_thousand(), divided(4, B, 1200, 1200, 500, 500), "report 0")
+        self.asks("report 0", "0 1300 1300")
+        self.accepted(room(5, 1, 100))
+        self.asks("report 0", "0 1300 1300")
+        self.accepted(mark(5, DEDUCTED))
+        self.asks("report 0", "0 1300 1200")
+        self.accepted(mark(5, EXEMPT))
+        self.asks("report 0", "0 1200 1200")
+        self.accepted(mark(3, EXEMPT))
+        self.asks("report 0", "0 920 920")
+        self.accepted(mark(4, EXEMPT), room(6, 5, 100), room(7, 3, 280))
+        self.asks("report 0", "0 620 620")
+
+    def test_allowance_after_all_exemptions(self) -> None:
+        """Half a percent of 1000 is 5, of 900 five too (4.5), of 899 four."""
+        self.accepted(*a_thousand(), hatchway(4, 5), room(5, 1, 100, EXEMPT))
+        self.asks("report 0", "0 900 900")
+        self.accepted(room(6, 1, 1, BALLAST))
+        self.asks("report 0", "0 900 900")
+        self.accepted(mark(6, DEDUCTED))
+        self.asks("report 0", "0 900 899")
+
+    def test_no_gross_no_allowance(self) -> None:
+        self.accepted("open 1200", divided(1, U, 1200, 600, 0, 9), divided(2, U, 1200, 600, 9, 0))
+        self.asks("report 0", "0 0 0")
+        self.accepted(hatchway(3, 77), divided(4, S, 1200, 300, 933, 1000, EXEMPT))
+        self.asks("report 0", "0 77 77")
+
+    def test_thirty_percent_of_nothing(self) -> None:
+        self.accepted("open 1200", divided(1, U, 1200, 600, 0, 9), divided(2, U, 1200, 600, 9, 0))
+        self.accepted(room(3, 1, 0, BALLAST), "report 0")
+
+    def test_thirty_percent_exactly(self) -> None:
+        """Of 1000 + hatchways - 5, the allowance being that of T less standing 1 and not of G."""
+        for hatchways, most in ((15, 303), (18, 303), (6, 300), (9, 301)):
+            self.accepted(*a_thousand(), hatchway(4, hatchways), room(5, 1, most, BALLAST))
+            self.assertEqual(s.gross_for_ballast(self.session.sheet.spaces), 995 + hatchways)
+            self.accepted("report 0", room(6, 1, 1, BALLAST), "report 1")
+            self.refused(14, "report 0")
+
+    def test_only_standing_1_is_taken_off_for_ballast(self) -> None:
+        self.accepted(*a_thousand(), mark(3, EXEMPT), room(4, 1, 216, BALLAST))
+        self.assertEqual(s.gross_for_ballast(self.session.sheet.spaces), 720)
+        self.asks("report 0", "0 504 504")
+        self.accepted(room(5, 2, 1, BALLAST))
+        self.refused(14, "report 0")
+        self.accepted(mark(5, DEDUCTED))
+        self.asks("report 0", "0 504 503")
+
+    def test_mark_that_is_not_needed(self) -> None:
+        self.accepted(*a_thousand())
+        self.asks("report 1", "0 1000 1000")
+
+    def test_marks_out_of_range(self) -> None:
+        self.accepted(*a_thousand(), room(4, 1, 301, BALLAST))
+        self.refused(2, "report 2", "report 255", "report 256", "report 257", f"report {2**64 - 1}")
+        self.refused(14, "report 0")
+        self.accepted(withdraw(2))
+        self.refused(2, "report 2")
+
+    def test_13_before_14(self) -> None:
+        self.accepted("open 1200", divided(1, U, 1200, 600, 1200, 500), room(2, 1, 300, BALLAST))
+        self.assertEqual(s.numbers_of_report(self.session.sheet, 0), {13, 14})
+        self.refused(13, "report 0", "report 1")
+
+    def test_no_under_deck(self) -> None:
+        self.accepted("open 100")
+        self.refused(13, "report 0", "report 1")
+
+
+class Recorded(OfCalls):
+    """Recorded spaces, judged as entries with their recorded tonnage and length."""
+
+    def of_lines(self, *lines: str) -> Sheet:
+        """The sheet that accepted lines make."""
+        self.accepted(*lines)
+        return self.session.sheet
+
+    def test_resume(self) -> None:
+        sheet = self.of_lines(*FiguresOfThePaper.WHOLE)
+        position, resumed = s.resume(4800, sheet.spaces)
+        self.assertEqual((position, resumed), (0, Sheet(True, 4800, sheet.spaces)))
+        self.assertEqual(s.report(resumed, 0)[:3], (0, 12439, 12119))
+        self.assertEqual(s.undo(resumed), (12, resumed))
+        self.assertEqual(s.redo(resumed), (12, resumed))
+        self.assertEqual(s.counts(resumed), (0, 0, 0, resumed))
+
+    def test_no_spaces(self) -> None:
+        self.assertEqual(s.resume(100, []), (0, Sheet(True, 100)))
+
+    def test_first_refused(self) -> None:
+        """4 to 10, with the position of the first; a room before its enclosing space is refused."""
+        u, h = Space(1, 0, U, 0, 360, 1200), Space(2, 0, H, 0, 5, 1)
+        rooms = [Space(10, 1, R, 0, 9, 1)] + [Space(id, id - 1, R, 0, 9, 1) for id in range(11, 18)]
+        for number, position, spaces in (
+            (4, 2, [u, u]), (4, 1, [replace(u, id=0)]), (4, 1, [replace(u, id=10_000)]), (5, 1, [rooms[0], u]),
+            (5, 2, [u, replace(rooms[0], within=10)]), (6, 1, [replace(u, standing=1)]),
+            (6, 2, [h, replace(rooms[0], within=2)]), (7, 9, [u, *rooms]),
+            (8, 3, [u, replace(rooms[0], standing=1), replace(rooms[1], standing=3)]),
+            (9, 2, [u, replace(rooms[0], tonnage=361)]), (9, 2, [u, replace(u, id=2, length=1)]),
+            (9, 1, [replace(u, length=1201)]), (10, 201, [replace(h, id=id) for id in range(1, 202)]),
+        ):
+            self.assertEqual(s.resume(1200, spaces), (position, s.CLOSED))
+            _, before = s.resume(1200, spaces[:position - 1])
+            self.assertEqual(s.enter_recorded(before, spaces[position - 1]), (number, before))
+
+    def test_tonnage_is_not_judged_against_length(self) -> None:
+        spaces = (Space(1, 0, H, 0, 100_000_000, 1), Space(2, 0, S, 0, 0, 150_000), Space(3, 2, R, 2, 0, 1))
+        self.assertEqual(s.resume(100, spaces), (0, Sheet(True, 100, spaces)))
+
+    def test_changes_after_resuming(self) -> None:
+        sheet = self.of_lines(*FiguresOfThePaper.WHOLE)
+        _, self.session.sheet = s.resume(4800, sheet.spaces)
+        self.accepted(withdraw(3), "undo", mark(3, DEDUCTED), room(6, 3, 400))
+        self.refused(9, room(7, 3, 1))
+        self.asks("counts", "0 2 0")
+
+
+class Protocol(OfCalls):
+    """The lines and answers of the program `survey`."""
+
+    def test_example(self) -> None:
+        lines = (
+            "open 4800", "enter 2 0 3 0 1600 800,800,800 1000,1000,1000", "enter 5 9 4 0 500 500 400",
+            "enter 4 2 5 3 800 800 500", "withdraw 2", "spaces", "counts", "report 0", "write 0 0 4",
+        )
+        answers = [
+            "0", "0", "0", "0", "11", "0 1 4800 3 2:0:3:0:1280:1600 5:0:4:0:100:500 4:2:5:3:320:800", "0 3 0",
+            "13 0 0", "? not yet",  # a call on files: "13 0 00000000" once there are such calls
+        ]
+        self.assertEqual(survey.answers("".join(line + "\n" for line in lines)).split("\n"), [*answers, ""])
+
+    def test_lines_without_an_answer(self) -> None:
+        self.assertEqual(survey.answers("\n#\n# open 1200\n#undo\ncounts\n\n"), "0 0 0\n")
+        self.assertEqual(survey.answers(""), "")
+        self.assertEqual(survey.answers("counts"), "0 0 0\n")  # the last line may end with the script
+
+    def test_remarks(self) -> None:
+        long, longest = ",".join("5" * 1025), ",".join("5" * 1024)
+        large = 2**64
+        for line, remark in (
+            ("close", "? unknown call"), (" undo", "? unknown call"), (" ", "? unknown call"),
+            ("Undo", "? unknown call"), ("undo\r", "? unknown call"), ("undo\t", "? unknown call"),
+            (" # note", "? unknown call"), ("\xb2", "? unknown call"), ("close x", "? unknown call"),
+            ("open", "? wrong number of words"), ("undo ", "? wrong number of words"),
+            ("open  1200", "? wrong number of words"), ("open 1200 ", "? wrong number of words"),
+            ("enter 1 0 4 0 10 5", "? wrong number of words"), ("open x y", "? wrong number of words"),
+            ("open x", "? not a number"), ("open ", "? not a number"), ("open -1", "? not a number"),
+            ("open +1", "? not a number"), ("open 1.0", "? not a number"), ("open 1_0", "? not a number"),
+            ("open \xb2", "? not a number"), ("open 1200\r", "? not a number"), ("open -", "? not a number"),
+            ("open 1,2", "? not a number"), ("enter 1 x 4 0 10 5 5", "? not a number"),
+            ("enter 1 0 4 0 10 5, 5", "? not a number"), ("enter 1 0 4 0 10 , 5", "? not a number"),
+            ("enter 1 0 4 0 10 -,5 5", "? not a number"), ("enter 1 0 4 0 10  5", "? not a number"),
+            (f"open {large}", "? number too large"), ("open 1" + "0" * 9000, "? number too large"),
+            (f"open 000{large}", "? number too large"), (f"enter 1 {large} 4 0 10 5 5", "? number too large"),
+            (f"enter 1 0 4 0 10 5 5,{large}", "? number too large"),
+            (f"enter 1 0 4 0 10 {long} 5", "? list too long"), (f"enter 1 0 4 0 10 5 {long}", "? list too long"),
+            ("enter 1 0 4 0 10 5 " + "," * 1024, "? list too long"), (f"enter 1 0 4 0 10 x {long}", "? not a number"),
+            ("enter 1 0 4 0 10 5 " + "," * 1023, "? not a number"), (f"mark {large} x", "? number too large"),
+            (f"mark x {large}", "? not a number"),
+        ):
+            for first in ("open 99", "open 1200"):
+                self.given(first)
+                before = self.session.sheet
+                self.asks(line, remark)
+                self.assertEqual(self.session.sheet, before)
+        self.asks(f"enter 1 0 4 0 10 {longest} 5", "3")
+        self.asks(f"enter 1 0 4 0 10 5 {longest}", "3")
+        self.asks("enter 1 0 4 0 10 - -", "3")
+
+    def test_calls_on_files(self) -> None:
+        for line in ("write 0 0 4", "writef 0 0 4 255", "read -", "write", "read x y"):
+            self.asks(line, "? not yet")
+
+    def test_script_too_long(self) -> None:
+        self.assertEqual(survey.answers("counts\n" + "#" * (2**20 - 7)), "0 0 0\n")
+        self.assertEqual(survey.answers("counts\n" + "#" * (2**20 - 6)), "? script too long\n")
+        self.session.answers("open 1200\n" + "\n" * 2**20)
+        self.assertEqual(self.session.sheet, s.CLOSED)
+
+    def test_values_above_their_types_never_wrap(self) -> None:
+        self.accepted("open 1200", divided(1, U, 1200, 600, 1200, 500))
+        for of_type, number, form in (
+            (2**32, 2, "enter 2 1 5 0 {} 500 500"), (2**32, 2, "enter 2 1 5 0 5 {} 500"),
+            (2**32, 2, "enter 2 1 5 0 5 500 {}"), (2**16, 4, "enter {} 1 5 0 5 500 500"),
+            (2**16, 5, "enter 2 {} 5 0 5 500 500"), (2**8, 2, "enter 2 1 {} 0 5 500 500"),
+            (2**8, 2, "enter 2 1 5 {} 5 500 500"), (2**16, 5, "withdraw {}"), (2**16, 5, "mark {} 0"),
+            (2**8, 2, "mark 1 {}"), (2**8, 2, "report {}"),
+        ):
+            for value in (of_type - 1, of_type, of_type + 1, of_type + 5, 2**63, 2**64 - 1):
+                self.refused(number, form.format(value))
+        for value in (2**32 - 1, 2**32, 2**32 + 1200, 2**64 - 1):
+            self.asks(f"open {value}", "2")
+
+    def test_zeros_in_front(self) -> None:
+        self.accepted("open 0001200", "enter 0001 00 04 00 0005 01000 001000")
+        self.asks("report 00", "13 0 0")
+        self.asks("spaces", "0 1 1200 1 1:0:4:0:5:5")
+        self.asks("withdraw " + "0" * 9000 + "1", "0")
+
+    def test_every_call_on_a_sheet_takes_as_many_words_as_told(self) -> None:
+        words = {name: len(readers) for name, (readers, _) in survey.CALLS.items()}
+        self.assertEqual(words, {
+            "open": 1, "enter": 7, "withdraw": 1, "mark": 2, "undo": 0, "redo": 0, "counts": 0, "report": 1,
+            "spaces": 0,
+        })
+
+    def test_command_line(self) -> None:
+        given = mock.Mock(buffer=io.BytesIO(b"# \xff\nopen 1200\nspaces\n\xb2\n"))
+        with mock.patch("sys.stdin", given), redirect_stdout(io.StringIO()) as printed:
+            self.assertEqual(survey.main(), 0)
+        self.assertEqual(printed.getvalue(), "0\n0 1 1200 0\n? unknown call\n")
+
+
+class Invariants(unittest.TestCase):
+    """What holds on every sheet that calls reach, over scripts at random."""
+
+    @classmethod
+    def setUpClass(cls) -> None:
+        cls.walks = [steps(scripts.script(seed, 300)) for seed in range(8)]
+        cls.walks.append(standard_steps())
+        cls.steps = [step for walk in cls.walks for step in walk]
+        cls.states = list({(step.after.length, step.after.spaces): step.after for step in cls.steps}.values())
+
+    def test_spaces(self) -> None:
+        for sheet in self.states:
+            spaces = sheet.spaces
+            self.assertLessEqual(len(spaces), 200)
+            self.assertEqual(len({space.id for space in spaces}), len(spaces))
+            self.assertTrue(all(space.id in range(1, 10_000) for space in spaces))
+            self.assertLessEqual(sum(space.length for space in spaces if space.kind == U), sheet.length)
+            self.assertTrue(all(s.MAY_HAVE[space.kind][space.standing] for space in spaces))
+            self.assertTrue(all((space.within == 0) == (space.kind != R) for space in spaces))
+
+    def test_enclosure(self) -> None:
+        """Levels and standings above, in one pass by order: a room stands behind its enclosing space."""
+        for sheet in self.states:
+            above: dict[int, list[Space]] = {}
+            inside: dict[int, int] = {}
+            for space in sheet.spaces:
+                above[space.id] = []
+                if space.kind == R:
+                    outer = next(other for other in sheet.spaces if other.id == space.within)
+                    self.assertNotEqual(outer.kind, H)
+                    above[space.id] = [*above[outer.id], outer]
+                    inside[outer.id] = inside.get(outer.id, 0) + space.tonnage
+                self.assertLessEqual(len(above[space.id]) + 1, 8)
+                if space.standing != PLAIN:
+                    self.assertTrue(all(other.standing == PLAIN for other in above[space.id]))
+            for space in sheet.spaces:
+                self.assertLessEqual(inside.get(space.id, 0), space.tonnage)
+
+    def test_nothing_is_taken_off_twice(self) -> None:
+        for sheet in self.states:
+            of = {(kind, standing): 0 for kind in m.KINDS for standing in range(4)}
+            for space in sheet.spaces:
+                of[space.kind, space.standing] += space.tonnage
+            total = sum(of[kind, standing] for kind in (U, B, S) for standing in range(4))
+            exempt = sum(of[kind, standing] for kind in m.KINDS for standing in (1, 2))
+            deducted = sum(of[kind, 3] for kind in m.KINDS)
+            self.assertLessEqual(exempt + deducted, total)
+            self.assertEqual((total, exempt, deducted), (s.t(sheet.spaces), s.e(sheet.spaces), s.d(sheet.spaces)))
+            allowance = (total - exempt + 100) // 200
+            gross = total - exempt + max(of[H, 0] - allowance, 0)
+            self.assertEqual((s.gross(sheet.spaces), s.net(sheet.spaces)), (gross, gross - deducted))
+            self.assertTrue(0 <= gross - deducted <= gross)
+
+    def test_reports(self) -> None:
+        given = [step for step in self.steps if step.call == "report" and step.number is not None]
+        self.assertGreater(sum(step.number == 0 for step in given), 300)
+        for step in given:
+            number, gross, net = map(int, step.answer.split(" "))
+            self.assertTrue(0 <= net <= gross)
+            self.assertTrue(number == 0 or gross == net == 0)
+
+    def test_refused_calls_change_nothing(self) -> None:
+        for step in self.steps:
+            if step.number != 0 or step.call in LOOKS:
+                expected = s.CLOSED if step.call == "open" and step.number is not None else step.before
+                self.assertEqual(step.after, expected)
+
+    def test_counts(self) -> None:
+        for step in self.steps:
+            undoable, redoable = len(step.after.earlier), len(step.after.later)
+            before = len(step.before.earlier), len(step.before.later)
+            self.assertLessEqual(undoable + redoable, 64)
+            if step.number == 0:
+                expected = {
+                    "open": (0, 0), "undo": (before[0] - 1, before[1] + 1), "redo": (before[0] + 1, before[1] - 1),
+                    **{call: (min(before[0] + 1, 64), 0) for call in CHANGES},
+                }.get(step.call, before)
+                self.assertEqual((undoable, redoable), expected)
+
+    def test_undo_and_redo_are_opposite(self) -> None:
+        for step in self.steps[::7]:
+            if step.after.earlier:
+                self.assertEqual(s.redo(s.undo(step.after)[1]), (0, step.after))
+            if step.after.later:
+                self.assertEqual(s.undo(s.redo(step.after)[1]), (0, step.after))
+
+    def replayed(self, length: int, lines: list[str]) -> tuple[Space, ...]:
+        """The spaces that the changes make on a new sheet; each is accepted."""
+        session = Session()
+        self.assertEqual(session.answer(f"open {length}"), "0")
+        self.assertEqual({session.answer(line) for line in lines} | {"0"}, {"0"})
+        return session.sheet.spaces
+
+    def test_accepted_changes_not_undone_give_the_standing_spaces(self) -> None:
+        for walk in self.walks:
+            done: list[str] = []
+            undone: list[str] = []
+            for place, step in enumerate(walk):
+                if step.call == "open" and step.number == 0:
+                    if step.before.is_open:
+                        self.assertEqual(self.replayed(step.before.length, done), step.before.spaces)
+                    done, undone = [], []
+                elif step.call in CHANGES and step.number == 0:
+                    done, undone = [*done, step.line], []
+                elif step.call == "undo" and step.number == 0:
+                    undone.append(done.pop())
+                elif step.call == "redo" and step.number == 0:
+                    done.append(undone.pop())
+                if place % 100 == 0 and step.after.is_open:
+                    self.assertEqual(self.replayed(step.after.length, done), step.after.spaces)
+
+    def test_every_sheet_can_be_resumed(self) -> None:
+        for sheet in self.states[::5]:
+            if sheet.is_open:
+                self.assertEqual(s.resume(sheet.length, sheet.spaces), (0, Sheet(True, sheet.length, sheet.spaces)))
+
+    def test_new_spaces_come_last(self) -> None:
+        for step in self.steps:
+            if step.call == "enter" and step.number == 0:
+                self.assertEqual(step.after.spaces, (*step.before.spaces, step.new))
+
+
+class StandardScript(unittest.TestCase):
+    """The standard script hits each number of each call, and each edge it promises."""
+
+    @classmethod
+    def setUpClass(cls) -> None:
+        cls.text = scripts.standard()
+        cls.steps = standard_steps()
+        cls.entries = [step for step in cls.steps if step.call == "enter" and step.number is not None]
+        cls.marks = [step for step in cls.steps if step.call == "mark" and step.number is not None]
+
+    def of(self, call: str, *numbers: int) -> list[Step]:
+        """The steps of a call, with these numbers or with any."""
+        return [
+            step for step in self.steps
+            if step.call == call and step.number is not None and (not numbers or step.number in numbers)
+        ]
+
+    def runs(self, *calls: str) -> Iterator[list[Step]]:
+        """As many steps one after another as there are calls, with these calls."""
+        for place in range(len(self.steps) - len(calls) + 1):
+            if all(self.steps[place + by].call == call for by, call in enumerate(calls)):
+                yield self.steps[place:place + len(calls)]
+
+    def test_form(self) -> None:
+        self.assertTrue(self.text.isascii())
+        self.assertTrue(self.text.startswith("#"))
+        self.assertTrue(self.text.endswith("\n"))
+        self.assertLessEqual(len(self.text), 900_000)
+        self.assertTrue(5_000 <= len(self.steps) <= 9_000, msg=len(self.steps))
+        self.assertEqual(survey.answers(self.text), "".join(step.answer + "\n" for step in self.steps))
+
+    def test_reproducible(self) -> None:
+        self.assertEqual(scripts.standard(), self.text)
+        self.assertEqual(scripts.script(7, 50), scripts.script(7, 50))
+        self.assertNotEqual(scripts.script(7, 50), scripts.script(8, 50))
+
+    def test_calls_at_random_are_as_many_as_asked(self) -> None:
+        for calls in (0, 1, 17, 300):
+            self.assertEqual(len(steps(scripts.script(3, calls))), calls)
+
+    def test_every_number_of_every_call(self) -> None:
+        numbers = {
+            "open": {0, 2}, "enter": {0, 1, 2, 3, 4, 5, 6, 7, 8, 9, 10}, "withdraw": {0, 1, 5, 11},
+            "mark": {0, 1, 2, 5, 6, 8}, "undo": {0, 1, 12}, "redo": {0, 1, 12}, "counts": {0},
+            "report": {0, 1, 2, 13, 14}, "spaces": {0},
+        }
+        for call, expected in numbers.items():
+            self.assertEqual({step.number for step in self.of(call)}, expected, msg=call)
+        self.assertEqual(set(numbers), set(survey.CALLS))
+
+    def test_every_remark(self) -> None:
+        expected = set(survey.REMARKS) - {survey.SCRIPT_TOO_LONG, survey.NOT_YET}
+        for is_open in (False, True):
+            found = {step.answer for step in self.steps if step.number is None and step.before.is_open == is_open}
+            self.assertEqual(found, expected)
+
+    def test_numbers_that_apply_together(self) -> None:
+        """Every pair of numbers that can apply to one entry, mark or report does so somewhere."""
+        found: dict[str, set[tuple[int, int]]] = {"enter": set(), "mark": set(), "report": set()}
+        for call, pairs in found.items():
+            for step in self.of(call):
+                if call == "enter":
+                    numbers = s.numbers_of_entry(step.before, step.new, *step.arguments[-2:])
+                else:
+                    of_call = s.numbers_of_mark if call == "mark" else s.numbers_of_report
+                    numbers = of_call(step.before, *step.arguments)
+                self.assertEqual(min(numbers, default=0), step.number)
+                if step.before.is_open:
+                    pairs |= set(combinations(sorted(numbers), 2))
+        above = {
+            2: range(3, 11), 3: range(4, 11), 4: range(5, 11), 5: [10], 6: [9, 10], 7: [8, 9, 10], 8: [9, 10], 9: [10]
+        }
+        self.assertEqual(found["enter"], {(low, high) for low, highs in above.items() for high in highs})
+        self.assertEqual(found["mark"], {(2, 5), (6, 8)})
+        self.assertEqual(found["report"], {(2, 13), (13, 14)})
+
+    def test_levels(self) -> None:
+        entered = {s.level(step.before.spaces, step.new) for step in self.entries if step.number == 0}
+        refused = {s.level(step.before.spaces, step.new) for step in self.entries if step.number == 7}
+        self.assertEqual((entered, refused), (set(range(1, 9)), {9}))
+        kinds = {s.above(step.before.spaces, step.new)[-1].kind for step in self.entries if step.number == 7}
+        self.assertEqual(kinds, {U, B, S})
+
+    def test_two_hundred_spaces(self) -> None:
+        self.assertIn(199, {len(step.before.spaces) for step in self.entries if step.number == 0})
+        tenth = [step for step in self.entries if step.number == 10]
+        self.assertEqual({len(step.before.spaces) for step in tenth}, {200})
+        self.assertLessEqual({B, H, R}, {step.new.kind for step in tenth})
+        for call in ("undo", "redo", "withdraw", "mark", "report"):
+            self.assertTrue(any(len(step.before.spaces) == 200 for step in self.of(call, 0)), msg=call)
+        for call in ("undo", "redo"):
+            self.assertTrue(any(len(step.after.spaces) == 200 for step in self.of(call, 0)), msg=call)
+
+    def test_sums_of_rooms(self) -> None:
+        """Exactly filled and passed by one, in every kind that encloses; rooms of nothing in a full space."""
+        filled, passed, nothing = set(), set(), set()
+        for step in self.entries:
+            outer = s.enclosing(step.before.spaces, step.new)
+            if outer is None or step.number not in (0, 9):
+                continue
+            by = s.tons(s.rooms(step.before.spaces, outer.id)) + step.new.tonnage - outer.tonnage
+            if step.number == 0 and by == 0:
+                (filled if step.new.tonnage else nothing).add((outer.kind, outer.tonnage > 0))
+            if step.number == 9 and by == 1:
+                passed.add(outer.kind)
+        self.assertEqual({kind for kind, _ in filled}, {U, B, S, R})
+        self.assertEqual(passed, {U, B, S, R})
+        self.assertLessEqual({(U, True), (U, False), (R, True), (R, False), (S, True), (B, True)}, nothing)
+
+    def test_sums_of_lengths(self) -> None:
+        found = set()
+        for step in self.entries:
+            if step.new.kind == U and step.number in (0, 9):
+                rest = step.before.length - s.under_deck_length(step.before.spaces)
+                by = step.new.length - rest
+                found.add((step.number, "exactly" if by == 0 else by if -1 <= by <= 1 else "other"))
+                if step.number == 9 and step.new.length == step.before.length:
+                    found.add("whole where others stand")
+                if step.number == 9 and step.new.length > step.before.length and not step.before.spaces:
+                    found.add("longer than the whole")
+        self.assertEqual(found, {
+            (0, "exactly"), (0, -1), (0, "other"), (9, 1), (9, "other"), "whole where others stand",
+            "longer than the whole",
+        })
+
+    def test_sixty_four_changes(self) -> None:
+        numbers = [(step.call, step.number) for step in self.steps if step.call not in LOOKS]
+        entered, undone = [("enter", 0)] * 65, [("undo", 0)] * 64 + [("undo", 12)]
+        redone = [("redo", 0)] * 64 + [("redo", 12)]
+        self.assertTrue(any(numbers[place:place + 195] == entered + undone + redone for place in range(len(numbers))))
+        for call in CHANGES:
+            self.assertIn(63, {len(step.before.earlier) for step in self.of(call, 0)})
+            self.assertIn(64, {len(step.before.earlier) for step in self.of(call, 0)})
+
+    def test_64_changes_10_undos_one_change(self) -> None:
+        found = [
+            run for run in self.runs("enter", "counts", "spaces", "redo")
+            if (len(run[0].before.earlier), len(run[0].before.later)) == (54, 10) and run[0].number == 0
+        ]
+        self.assertTrue(found)
+        self.assertEqual({(run[1].answer, run[3].answer) for run in found}, {("0 55 0", "12")})
+
+    def test_ids_entered_again(self) -> None:
+        """After a withdrawal and after an undone entry, of the same kind and of another."""
+        freed: dict[tuple[str, int], int] = {}
+        found = set()
+        for step in self.steps:
+            if step.number != 0:
+                continue
+            before, after = step.before.spaces, step.after.spaces
+            if step.call == "open":
+                freed = {}
+            elif step.call in ("withdraw", "undo"):
+                freed |= {(step.call, one.id): one.kind for one in before if s.find(after, one.id) is None}
+            elif step.call == "enter":
+                found |= {(how, kind == step.new.kind) for (how, id), kind in freed.items() if id == step.new.id}
+        self.assertEqual(found, {(how, same) for how in ("withdraw", "undo") for same in (False, True)})
+
+    def test_undone_withdrawals(self) -> None:
+        """At the first place, in the middle and at the last; made again too."""
+        places = set()
+        for first, second in zip(self.steps, self.steps[1:]):
+            if (first.call, first.number, second.call, second.number) == ("withdraw", 0, "undo", 0):
+                id = first.arguments[0]
+                place = [space.id for space in second.after.spaces].index(id)
+                last = len(second.after.spaces) - 1
+                places.add("first" if place == 0 else "last" if place == last else "middle")
+        self.assertLessEqual({"middle", "last"}, places)
+
+    def test_redo_after_calls_that_change_nothing(self) -> None:
+        between: set[tuple[str, int | None]] = set()
+        found: set[tuple[str, int | None]] = set()
+        for step in self.steps:
+            if step.call == "redo" and step.number == 0:
+                found |= between
+            elif step.after == step.before:
+                name = step.call if step.number is not None else "?"
+                between = between | {(name, step.number)}
+                continue
+            between = set()
+        self.assertLessEqual({
+            ("report", 0), ("report", 2), ("counts", 0), ("spaces", 0), ("enter", 2), ("enter", 3), ("enter", 4),
+            ("enter", 5), ("enter", 6), ("enter", 9), ("enter", 10), ("withdraw", 5), ("mark", 2), ("mark", 5),
+            ("mark", 6), ("report", 13), ("?", None), ("undo", 12),
+        }, found)
+
+    def test_marks_of_the_same_standing(self) -> None:
+        same = [step for step in self.marks if step.number == 0 and step.before.spaces == step.after.spaces]
+        kinds = {(s.find(step.before.spaces, step.arguments[0]).kind, step.arguments[1]) for step in same}
+        self.assertLessEqual({(U, 0), (B, 0), (S, 0), (H, 0), (R, 0), (R, 1), (R, 2), (R, 3)}, kinds)
+        self.assertTrue(any(step.before.later and not step.after.later for step in same))
+
+    def test_not_plain_above_and_below(self) -> None:
+        """Marks refused with 8 at every pair of levels, from above and from below; entries below every level."""
+        marked, entered = set(), set()
+        for step in self.marks:
+            if step.number == 8:
+                spaces, space = step.before.spaces, s.find(step.before.spaces, step.arguments[0])
+                own = s.level(spaces, space)
+                marked |= {
+                    (own, s.level(spaces, other)) for other in s.above(spaces, space) + s.below(spaces, space)
+                    if other.standing != PLAIN
+                }
+        for step in self.entries:
+            if step.number == 8:
+                spaces, own = step.before.spaces, s.level(step.before.spaces, step.new)
+                entered |= {
+                    (own, s.level(spaces, other)) for other in s.above(spaces, step.new) if other.standing != PLAIN
+                }
+        pairs = set(combinations(range(1, 9), 2))
+        self.assertEqual(marked, pairs | {(lower, upper) for upper, lower in pairs})
+        self.assertLessEqual({(8, upper) for upper in range(1, 8)}, entered)
+        self.assertLessEqual({(upper + 1, upper) for upper in range(1, 8)}, entered)
+
+    def test_one_not_plain_standing_for_another(self) -> None:
+        found = {
+            (s.find(step.before.spaces, step.arguments[0]).standing, step.arguments[1])
+            for step in self.marks if step.number == 0
+        }
+        self.assertEqual(found, {(one, other) for one in range(4) for other in range(4)})
+
+    def test_ballast(self) -> None:
+        """Exactly 30% and a little over, not justified and justified; hatchways and exempt spaces in the gross."""
+        exactly, over = [], []
+        for step in self.of("report", 0, 14):
+            ballast = s.tons(step.before.spaces, standings=(BALLAST,))
+            by = 10 * ballast - 3 * s.gross_for_ballast(step.before.spaces)
+            if ballast and by == 0:
+                exactly.append(step)
+            if 0 < by <= 10:
+                over.append(step)
+        for found, number in ((exactly, 0), (over, 14)):
+            self.assertEqual({step.number for step in found if step.arguments == [0]}, {number})
+            self.assertEqual({step.number for step in found if step.arguments == [1]}, {0})
+            self.assertTrue(any(s.tons(step.before.spaces, kinds=(H,)) for step in found))
+            self.assertTrue(any(s.tons(step.before.spaces, standings=(EXEMPT,)) for step in found))
+
+    def test_excess(self) -> None:
+        found = set()
+        for step in self.of("report", 0):
+            g = s.t(step.before.spaces) - s.e(step.before.spaces)
+            by = s.tons(step.before.spaces, kinds=(H,)) - m.hatchway_allowance(g)
+            found.add(by)
+        self.assertLessEqual({-1, 0, 1}, found)
+
+    def test_justified_marks(self) -> None:
+        for number, marks in ((0, {0, 1}), (13, {0, 1}), (14, {0}), (1, {0, 1, 2, 255}), (2, {2, 3, 4, 255})):
+            self.assertEqual({step.arguments[0] for step in self.of("report", number)} & {0, 1, 2, 3, 4, 255}, marks | (
+                {3} if number == 1 else set()
+            ))
+
+    def test_enclosing_ids(self) -> None:
+        found = set()
+        for step in self.entries:
+            id, within, kind = step.arguments[:3]
+            if kind == R:
+                outer = s.find(step.before.spaces, within)
+                found |= {(step.number, "own id")} if within == id else set()
+                found |= {(step.number, "hatchway")} if outer is not None and outer.kind == H else set()
+            elif step.number == 0 and within:
+                found.add((kind, "standing" if s.find(step.before.spaces, within) else "not standing"))
+                self.assertEqual(step.after.spaces[-1].within, 0)
+        self.assertLessEqual({(5, "own id"), (4, "own id"), (6, "hatchway")}, found)
+        ignored = {(kind, how) for kind in (U, B, S, H) for how in ("standing", "not standing")}
+        self.assertLessEqual(ignored, found)
+
+    def test_unknown_kinds_and_standings(self) -> None:
+        refused = [step.arguments for step in self.entries if step.number == 2]
+        self.assertLessEqual({0, 6, 255}, {arguments[2] for arguments in refused})
+        for kind in m.KINDS:
+            self.assertLessEqual({4, 255}, {arguments[3] for arguments in refused if arguments[2] == kind})
+        self.assertLessEqual({4, 255}, {step.arguments[1] for step in self.marks if step.number == 2})
+
+    def test_numbers_above_their_types(self) -> None:
+        """At every place of every call, the greatest number and one that would wrap into its range."""
+        greatest = {survey.an_id: 2**16, survey.a_code: 2**8, survey.a_measure: 2**32, survey.measures: 2**32}
+        for call, (readers, _) in survey.CALLS.items():
+            for place, reader in enumerate(readers, start=1):
+                words = {word for step in self.of(call) for word in step.words[place].split(",")}
+                values = {survey.number(word) for word in words - {"-"}}
+                self.assertIn(2**64 - 1, values)
+                self.assertTrue(any(greatest[reader] < value < greatest[reader] + 10**4 for value in values))
+                self.assertIn(greatest[reader], values | ({2**8} if reader is survey.a_code else set()))
+
+    def test_sheets_opened_again(self) -> None:
+        opened = {(step.before.is_open, bool(step.before.spaces), step.number) for step in self.of("open")}
+        self.assertLessEqual({(False, False, 0), (True, True, 0), (True, True, 2), (False, False, 2)}, opened)
+        calls = {step.call for step in self.steps if not step.before.is_open and step.number == 1}
+        self.assertEqual(calls, {"enter", "withdraw", "mark", "undo", "redo", "report"})
+
+    def test_looks(self) -> None:
+        """Counts, spaces and reports are frequent; the spaces of a large sheet are seldom asked for."""
+        places = [place for place, step in enumerate(self.steps) if step.call in LOOKS and step.number is not None]
+        self.assertGreater(len(places), len(self.steps) // 5)
+        self.assertLess(max(after - before for before, after in zip(places, places[1:])), 2 * scripts.MOST_UNSEEN)
+        large = [step for step in self.of("spaces") if len(step.before.spaces) > 100]
+        self.assertTrue(2 <= len(large) <= 20, msg=len(large))
+        self.assertLess(sum(len(step.answer) for step in self.steps), 1_000_000)
+
+    def test_command_line(self) -> None:
+        for arguments, status, expected in (
+            ([], 0, "# one\n"), (["7", "50"], 0, scripts.script(7, 50)), (["7"], 2, ""), (["x", "50"], 2, ""),
+        ):
+            with mock.patch("sys.argv", ["scripts", *arguments]), redirect_stderr(io.StringIO()):
+                with mock.patch.object(scripts, "standard", lambda: "# one\n"):
+                    with redirect_stdout(io.StringIO()) as printed:
+                        self.assertEqual(scripts.main(), status)
+            self.assertEqual(printed.getvalue(), expected)
+
+
+if __name__ == "__main__":
+    unittest.main()
