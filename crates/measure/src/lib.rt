@@ -8,7 +8,7 @@ pub mod kinds;
 mod multipliers;
 pub mod offsets;
 mod parts;
-mod ranges;
+pub mod ranges;
 mod rounding;
 pub mod thirds;
 pub mod units;

@@ -10,9 +10,8 @@ use crate::parts::of_under_deck;
 use crate::ranges::all_within;
 use crate::ranges::breadths as breadth_range;
 use crate::ranges::heights as height_range;
-use crate::ranges::lengths;
-use crate::ranges::tonnage_lengths;
-use crate::ranges::within;
+use crate::ranges::length_fits;
+use crate::ranges::tonnage_length_fits;
 use crate::units::Hundredths;
 use crate::volumes::box_tons;
 use crate::volumes::level_tons;
@@ -96,10 +95,10 @@ fn in_range(
     if !is_kind(kind) {
         return false;
     }
-    if !within(tonnage_lengths(), tonnage_length.0) {
+    if !tonnage_length_fits(tonnage_length) {
         return false;
     }
-    if !within(lengths(kind), length.0) {
+    if !length_fits(kind, length) {
         return false;
     }
     if !all_within(height_range(kind), heights) {

@@ -1,5 +1,6 @@
 // The ranges of measures ("Ranges"), and whether measures are in them.
 use crate::kinds::Kind;
+use crate::units::Hundredths;
 ghost use mathlib.Core.Path.{_≡_};
 ghost use Rattle.measure.specs.Ranges.{within as withinOf, allWithin, leastOffset, tonnageLengths, otherLengths, lengths as lengthsOf, heights as heightsOf, breadths as breadthsOf};
 
@@ -18,7 +19,7 @@ const DEEPEST: u32 = 20_000;
 
 const BROADEST: u32 = 30_000;
 
-pub(crate) fn tonnage_lengths() -> Range
+fn tonnage_lengths() -> Range
     ensures { λ r. ⌜ r ≡ tonnageLengths ⌝ }
 {
     Range {
@@ -36,7 +37,7 @@ fn other_lengths() -> Range
     }
 }
 
-pub(crate) fn lengths(kind: Kind) -> Range
+fn lengths(kind: Kind) -> Range
     ensures { λ r. ⌜ r ≡ lengthsOf kind ⌝ }
 {
     match kind {
@@ -80,7 +81,7 @@ fn least_offset(kind: Kind) -> u32
     }
 }
 
-pub(crate) fn within(range: Range, x: u32) -> bool
+fn within(range: Range, x: u32) -> bool
     ensures { λ r. ⌜ r ≡ withinOf range x ⌝ }
 {
     if x < range.least {
@@ -100,4 +101,18 @@ pub(crate) fn all_within(range: Range, xs: &[u32]) -> bool
         i += 1;
     }
     true
+}
+
+// Whether a tonnage length is in its range.
+pub fn tonnage_length_fits(length: Hundredths) -> bool
+    ensures { λ r. ⌜ r ≡ withinOf tonnageLengths (length .0) ⌝ }
+{
+    within(tonnage_lengths(), length.0)
+}
+
+// Whether the length of a space of this kind is in its range.
+pub fn length_fits(kind: Kind, length: Hundredths) -> bool
+    ensures { λ r. ⌜ r ≡ withinOf (lengthsOf kind) (length .0) ⌝ }
+{
+    within(lengths(kind), length.0)
 }

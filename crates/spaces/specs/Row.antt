@@ -4,7 +4,7 @@ use mathlib.Core.Bool.{Bool, true, false, cond, _&&_, _||_}
 use mathlib.Core.List.{List, [], _∷_}
 use mathlib.Core.Option.{Option, none, some}
 use lib.Dec.{eqb}
-use Rattle.spaces.specs.Space.{isUnderDeck, isHatchway, isRoom, isHull}
+use Rattle.spaces.specs.Space.{emptySpace, isUnderDeck, isHatchway, isRoom, isHull}
 use Rattle.spaces.specs.declared.space.Space.{Space}
 use Rattle.spaces.specs.declared.row.Found.{Found}
 use Rattle.spaces.specs.declared.row.Found.the-variants.{At, Nothing}
@@ -24,6 +24,11 @@ find id (x ∷ xs) = cond (eqb (x .id) id) (some x) (find id xs)
 abbrev pub foundAs : Option Space → Found
 foundAs none = Nothing
 foundAs (some x) = At x
+
+-- and itself, or an empty record
+abbrev pub spaceWith : Option Space → Space
+spaceWith none = emptySpace
+spaceWith (some x) = x
 
 -- its place in the order, from 0; as many as there are spaces where none has the id
 abbrev pub placeOf : ℕ → List Space → ℕ

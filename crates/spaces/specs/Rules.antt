@@ -49,24 +49,29 @@ overfull L xs x = passesEnclosing xs x (enclosing xs x) || (isUnderDeck x && ltb
 abbrev pub noPlace : List Space → Bool
 noPlace xs = leb 200 (length xs)
 
-unfoldable pub entryNumber : ℕ → List Space → Space → ℕ
-entryNumber L xs x =
-    firstOf
-    ((idRefused xs x, 4)
+abbrev pub entryTests : ℕ → List Space → Space → List (Bool × ℕ)
+entryTests L xs x =
+    (idRefused xs x, 4)
     ∷ (unhoused xs x, 5)
     ∷ (misplaced xs x, 6)
     ∷ (tooDeep xs x, 7)
     ∷ (offTwice xs x, 8)
     ∷ (overfull L xs x, 9)
     ∷ (noPlace xs, 10)
-    ∷ [])
+    ∷ []
+
+unfoldable pub entryNumber : ℕ → List Space → Space → ℕ
+entryNumber L xs x = firstOf (entryTests L xs x)
 
 -- 11: "withdrawal of a space that encloses a room"
 abbrev pub enclosesRoom : List Space → ℕ → Bool
 enclosesRoom xs id = ltb 0 (sumOf (Rooms id) xs)
 
+abbrev pub withdrawTests : List Space → ℕ → List (Bool × ℕ)
+withdrawTests xs id = (not (stands id xs), 5) ∷ (enclosesRoom xs id, 11) ∷ []
+
 unfoldable pub withdrawNumber : List Space → ℕ → ℕ
-withdrawNumber xs id = firstOf ((not (stands id xs), 5) ∷ (enclosesRoom xs id, 11) ∷ [])
+withdrawNumber xs id = firstOf (withdrawTests xs id)
 
 -- 6 of a mark: the kind of the space with the id can't take the standing
 abbrev pub cannotTake : Option Space → ℕ → Bool
@@ -81,6 +86,9 @@ plainAbove xs (some z) = allPlain (above xs z)
 abbrev pub markedTwice : List Space → ℕ → ℕ → Bool
 markedTwice xs id standing = not (eqb standing 0) && not (plainAbove xs (find id xs) && allPlain (below id xs))
 
+abbrev pub markTests : List Space → ℕ → ℕ → List (Bool × ℕ)
+markTests xs id standing =
+    (not (stands id xs), 5) ∷ (cannotTake (find id xs) standing, 6) ∷ (markedTwice xs id standing, 8) ∷ []
+
 unfoldable pub markNumber : List Space → ℕ → ℕ → ℕ
-markNumber xs id standing =
-    firstOf ((not (stands id xs), 5) ∷ (cannotTake (find id xs) standing, 6) ∷ (markedTwice xs id standing, 8) ∷ [])
+markNumber xs id standing = firstOf (markTests xs id standing)

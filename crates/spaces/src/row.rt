@@ -1,8 +1,9 @@
 // The standing spaces: how many there are, and finding one by its id.
 use crate::space::Space;
+use crate::space::empty;
 ghost use mathlib.Core.Path.{_≡_};
 ghost use lib.ListN.{take};
-ghost use Rattle.spaces.specs.Row.{find as findIn, placeOf, stands as standsIn, foundAs, used as usedOf};
+ghost use Rattle.spaces.specs.Row.{find as findIn, placeOf, stands as standsIn, spaceWith, foundAs, used as usedOf};
 
 // The space with an id, if it stands.
 pub enum Found {
@@ -11,7 +12,7 @@ pub enum Found {
 }
 
 // How many places are used, of 200.
-pub(crate) fn used(count: usize) -> usize
+pub fn used(count: usize) -> usize
     ensures { λ r. ⌜ r ≡ usedOf count ⌝ }
 {
     if count < 200 {
@@ -58,5 +59,16 @@ pub fn stands(spaces: [Space; 200], count: usize, id: u16) -> bool
     match found {
         Found::At(_) => true,
         Found::Nothing => false,
+    }
+}
+
+// The space with an id; an empty record where none stands.
+pub fn space_with(spaces: [Space; 200], count: usize, id: u16) -> Space
+    ensures { λ r. ⌜ r ≡ spaceWith (findIn id (take count spaces)) ⌝ }
+{
+    let found = find(spaces, count, id);
+    match found {
+        Found::At(x) => x,
+        Found::Nothing => empty(),
     }
 }

@@ -1,12 +1,15 @@
 -- The standing spaces are the first `count` of 200 places: one taken off the front, and what is left at the end.
-use mathlib.Core.Path.{_≡_, sym, ap, _∙_}
+use mathlib.Core.Path.{_≡_, refl, sym, ap, _∙_}
+use mathlib.Core.Bool.{Bool, true, false}
+use borrow.Author.Tests.{leb-true, leb-false}
+use lib.Dec.{leb}
 use mathlib.Core.List.{List, [], _∷_}
 use Prim.Native.Nat.{ℕ, suc, _+_, _≤_, _<_, min}
-use native.Mathlib.Nat.{min-le-left, lt-of-lt-of-le}
+use native.Mathlib.Nat.{min-le-left, min-eq-left, min-eq-right, lt-of-lt-of-le}
 use native.Mathlib.Numerals.{add-one}
 use native.Mathlib.Omega.{arith}
 use lib.ListN.{length, take, drop, getD, length-take, drop-of-length-le}
-use lib.Seq.{drop-cons, getD-take}
+use lib.Seq.{drop-cons, getD-take, take-all}
 use Rattle.spaces.specs.Space.{emptySpace}
 use Rattle.spaces.specs.Row.{used}
 use Rattle.spaces.specs.declared.space.Space.{Space}
@@ -24,3 +27,16 @@ module _ (spaces : List Space) (count : ℕ) (full : length spaces ≡ 200) wher
 
   pub standing-end : (i : ℕ) → used count ≤ i → drop i (take count spaces) ≡ []
   standing-end i h = drop-of-length-le (take count spaces) {i = i} (omega (arith, used-is))
+
+  -- the used places are those that stand
+  pub take-used : take (used count) spaces ≡ take count spaces
+  take-used = by (leb count 200) refl
+    where
+      by : (t : Bool) → leb count 200 ≡ t → take (used count) spaces ≡ take count spaces
+      by true e = ap (λ (k : ℕ). take k spaces) (min-eq-left (leb-true count 200 e))
+      by false e =
+          let h : 200 < count = leb-false count 200 e in
+          let m : min count 200 ≡ 200 = min-eq-right (omega arith) in
+          ap (λ (k : ℕ). take k spaces) m
+          ∙ take-all 200 spaces (omega arith)
+          ∙ sym (take-all count spaces (omega arith))

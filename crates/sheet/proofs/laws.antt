@@ -1,0 +1,6 @@
+-- Laws of the definitions in specs/, that the functions' proofs and the floors above cite.
+pub mod Row
+pub mod Changes
+pub mod Sheet
+pub mod Resume
+pub mod Calls

@@ -1,0 +1,51 @@
+-- How a call's number follows from its tests, and what is answered with it.
+use mathlib.Core.Path.{_≡_, refl, sym, ap, _∙_}
+use mathlib.Core.Bool.{Bool, true, false, cond, not}
+use mathlib.Core.List.{List, _∷_}
+use Prim.Native.Nat.{ℕ}
+use borrow.Author.Tests.{ne-eqb}
+use lib.Dec.{eqb, leb}
+use lib.ListN.{length}
+use Rattle.measure.specs.Refusals.{firstOf}
+use Rattle.spaces.specs.declared.space.Space.{Space}
+use Rattle.sheet.specs.Sheet.{usable}
+use Rattle.sheet.specs.Changes.{withStanding, fitted}
+use Rattle.sheet.specs.Calls.{answered}
+use Rattle.sheet.specs.Handed.{Places, OpenPlaces, Judged}
+use Rattle.sheet.specs.declared.sheet.Sheet.{Sheet}
+use Rattle.sheet.specs.declared.calls.Changed.{Changed}
+use Rattle.sheet.proofs.laws.Sheet.{usable-counts}
+
+-- the first test applies, or is passed over
+pub applies : (b : Bool) (n : ℕ) (tests : List (Bool × ℕ)) → b ≡ true → firstOf ((b, n) ∷ tests) ≡ n
+applies b n tests e = ap (λ (t : Bool). cond t n (firstOf tests)) e
+
+pub passes : (b : Bool) (n : ℕ) (tests : List (Bool × ℕ)) → b ≡ false → firstOf ((b, n) ∷ tests) ≡ firstOf tests
+passes b n tests e = ap (λ (t : Bool). cond t n (firstOf tests)) e
+
+-- 1 of a sheet that isn't usable, and else what the other tests give
+pub not-open : (s : Sheet) (tests : List (Bool × ℕ)) → usable s ≡ false → firstOf ((not (usable s), 1) ∷ tests) ≡ 1
+not-open s tests e = applies (not (usable s)) 1 tests (ap not e)
+
+pub is-open : (s : Sheet) (tests : List (Bool × ℕ)) → usable s ≡ true → firstOf ((not (usable s), 1) ∷ tests) ≡ firstOf tests
+is-open s tests e = passes (not (usable s)) 1 tests (ap not e)
+
+-- a number that isn't 0 is answered with the sheet as it came
+pub refused : (k : ℕ) (s next : Sheet) → (k ≡ 0 → ⊥) → _≡_ {A = Changed} (record { number = k; sheet = s }) (answered k s next)
+refused k s next h = ap (λ (t : Bool). record { number = k; sheet = cond t next s }) (sym (ne-eqb k 0 h))
+
+-- other standing spaces leave the open changes as they are
+pub fitted-open-places : (xs : List Space) (s : Sheet) → OpenPlaces s → OpenPlaces (fitted xs s)
+unfolding fitted
+fitted-open-places xs s whole = by (leb (length xs) 200)
+  where
+    by : (t : Bool) → OpenPlaces (cond t (withStanding xs s) s)
+    by true = record { count = whole .count; all = whole .all }
+    by false = whole
+
+-- what a usable sheet hands the functions inside
+pub places : {s : Sheet} {r : Bool} → Judged s r → r ≡ true → Places s
+places {s} j e = record { count = usable-counts s (sym (j .usable-is) ∙ e) .places; all = j .spaces }
+
+pub open-places : {s : Sheet} {r : Bool} → Judged s r → r ≡ true → OpenPlaces s
+open-places {s} j e = record { count = usable-counts s (sym (j .usable-is) ∙ e) .undoable; all = j .changes }

@@ -1,0 +1,138 @@
+-- `Sheet::enter` meets its contract: the tests of 1 to 10, and the entry made and noted.
+use mathlib.Core.Path.{_≡_, sym, ap, ap₂, _∙_}
+use Prim.Native.Nat.{ℕ}
+use Rattle.measure.proofs.laws.Tests.{holds, fails}
+use borrow.Author.Tests.{not-false, lt-ltb, le-ltb, ne-eqb, eq-eqb}
+use Rattle.sheet.specs.Sheet.{standing, usable}
+use Rattle.sheet.specs.Changes.{made, noted}
+use Rattle.sheet.specs.declared.changes.Change.{Change}
+use Rattle.sheet.specs.declared.sheet.Sheet.{Sheet}
+use Rattle.sheet.specs.declared.calls.Changed.{Changed}
+use mathlib.Core.Bool.{Bool, not}
+use mathlib.Core.List.{List, _∷_}
+use lib.Dec.{eqb, ltb}
+use Rattle.measure.specs.Refusals.{firstOf}
+use Rattle.spaces.specs.Rules.{entryTests, entryNumber}
+use Rattle.spaces.specs.declared.space.Space.{Space}
+use Rattle.measure.specs.declared.offsets.Measured.{Measured}
+use Rattle.sheet.specs.Calls.{answered, changed, entryOf, measuredFor, entered}
+use Rattle.sheet.specs.declared.changes.Change.the-variants.{Entered}
+use Rattle.sheet.proofs.laws.Calls.{applies, passes, not-open, is-open, refused, fitted-open-places, places, open-places}
+use borrow.Author.Needs.{needs}
+use Rattle.sheet.proofs.sheet.Sheet.enter.Statement.{statement}
+use Rattle.sheet.proofs.sheet.Sheet.enter.Tie as tie
+
+usable-requires : tie.Need-usable-requires
+usable-requires c κs = search needs
+
+returns : tie.Need-returns
+unfolding entered
+returns c =
+    let s = c .before .before .before .before in
+    let sh = s .args .self in
+    let e = s .args .entry in
+    let q = measuredFor sh e (s .args .heights .now) (s .args .breadths .now) in
+    let t4 : List (Bool × ℕ) = entryTests (sh .length) (standing sh) (entryOf e (q .tonnage)) in
+    let t3 : List (Bool × ℕ) = (not (eqb (q .number) 0), q .number) ∷ t4 in
+    let t2 : List (Bool × ℕ) = (ltb 3 (e .standing), 2) ∷ t3 in
+    let next = changed (Entered (entryOf e (q .tonnage))) sh in
+    ap (λ (k : ℕ). answered k sh next) (sym (not-open sh t2 (fails (c .before .usable .ensures .usable-is) (c .if1 .taken))))
+
+returns-2 : tie.Need-returns-2
+unfolding entered
+returns-2 c =
+    let s = c .before .before .before .before .before .before in
+    let sh = s .args .self in
+    let e = s .args .entry in
+    let q = measuredFor sh e (s .args .heights .now) (s .args .breadths .now) in
+    let t4 : List (Bool × ℕ) = entryTests (sh .length) (standing sh) (entryOf e (q .tonnage)) in
+    let t3 : List (Bool × ℕ) = (not (eqb (q .number) 0), q .number) ∷ t4 in
+    let t2 : List (Bool × ℕ) = (ltb 3 (e .standing), 2) ∷ t3 in
+    let next = changed (Entered (entryOf e (q .tonnage))) sh in
+    let on = is-open sh t2 (holds (c .before .before .before .usable .ensures .usable-is) (c .before .before .if1 .left)) in
+    ap (λ (k : ℕ). answered k sh next) (sym (on ∙ applies (ltb 3 (e .standing)) 2 t3 (lt-ltb 3 (e .standing) (c .if2 .taken))))
+
+measure-offsets-requires : tie.Need-measure-offsets-requires
+measure-offsets-requires c κs = search needs
+
+returns-3 : tie.Need-returns-3
+unfolding entered
+returns-3 c =
+    let s = c .before .before .before .before .before .before .before .before .before in
+    let sh = s .args .self in
+    let e = s .args .entry in
+    let q = measuredFor sh e (s .args .heights .now) (s .args .breadths .now) in
+    let t4 : List (Bool × ℕ) = entryTests (sh .length) (standing sh) (entryOf e (q .tonnage)) in
+    let t3 : List (Bool × ℕ) = (not (eqb (q .number) 0), q .number) ∷ t4 in
+    let t2 : List (Bool × ℕ) = (ltb 3 (e .standing), 2) ∷ t3 in
+    let next = changed (Entered (entryOf e (q .tonnage))) sh in
+    let m = c .before .before .measure-offsets .ensures in
+    let on = is-open sh t2 (holds (c .before .before .before .before .before .before .usable .ensures .usable-is) (c .before .before .before .before .before .if1 .left)) ∙ passes (ltb 3 (e .standing)) 2 t3 (le-ltb 3 (e .standing) (c .before .before .before .if2 .left)) in
+    let k = ap (λ (x : Measured). x .number) m in
+    let some = applies (not (eqb (q .number) 0)) (q .number) t4 (ap not (ne-eqb (q .number) 0 (rw k at (c .if3 .taken)))) in
+    refused (c .before .before .measure-offsets .result .number) sh next (c .if3 .taken)
+    ∙ ap (λ (k : ℕ). answered k sh next) (k ∙ sym (on ∙ some))
+
+space-requires : tie.Need-space-requires
+space-requires c κs = search needs
+
+entry-number-requires : tie.Need-entry-number-requires
+entry-number-requires c κs = search needs
+
+returns-4 : tie.Need-returns-4
+unfolding entered entryNumber
+returns-4 c =
+    let s = c .before .before .before .before .before .before .before .before .before .before .before .before .before in
+    let sh = s .args .self in
+    let e = s .args .entry in
+    let q = measuredFor sh e (s .args .heights .now) (s .args .breadths .now) in
+    let t4 : List (Bool × ℕ) = entryTests (sh .length) (standing sh) (entryOf e (q .tonnage)) in
+    let t3 : List (Bool × ℕ) = (not (eqb (q .number) 0), q .number) ∷ t4 in
+    let t2 : List (Bool × ℕ) = (ltb 3 (e .standing), 2) ∷ t3 in
+    let next = changed (Entered (entryOf e (q .tonnage))) sh in
+    let m = c .before .before .before .before .before .before .measure-offsets .ensures in
+    let on = is-open sh t2 (holds (c .before .before .before .before .before .before .before .before .before .before .usable .ensures .usable-is) (c .before .before .before .before .before .before .before .before .before .if1 .left)) ∙ passes (ltb 3 (e .standing)) 2 t3 (le-ltb 3 (e .standing) (c .before .before .before .before .before .before .before .if2 .left)) ∙ passes (not (eqb (q .number) 0)) (q .number) t4 (ap not (eq-eqb (q .number) 0 (sym (ap (λ (x : Measured). x .number) m) ∙ c .before .before .before .before .if3 .left))) in
+    let x = c .before .before .before .space .ensures ∙ ap (λ (y : Measured). entryOf e (y .tonnage)) m in
+    refused (c .before .entry-number .result) sh next (c .if4 .taken)
+    ∙ ap (λ (k : ℕ). answered k sh next) (c .before .entry-number .ensures ∙ ap (λ (y : Space). firstOf (entryTests (sh .length) (standing sh) y)) x ∙ sym on)
+
+made-requires : tie.Need-made-requires
+made-requires c κs = places (c .before .before .before .before .before .before .before .before .before .before .usable .ensures) (not-false _ (c .before .before .before .before .before .before .before .before .before .if1 .left))
+
+noted-requires : tie.Need-noted-requires
+noted-requires c κs = rw (c .made .ensures) (fitted-open-places _ _ (open-places (c .before .before .before .before .before .before .before .before .before .before .before .usable .ensures) (not-false _ (c .before .before .before .before .before .before .before .before .before .before .if1 .left))))
+
+returns-5 : tie.Need-returns-5
+unfolding entered entryNumber
+returns-5 c =
+    let s = c .before .before .before .before .before .before .before .before .before .before .before .before .before .before .before in
+    let sh = s .args .self in
+    let e = s .args .entry in
+    let q = measuredFor sh e (s .args .heights .now) (s .args .breadths .now) in
+    let t4 : List (Bool × ℕ) = entryTests (sh .length) (standing sh) (entryOf e (q .tonnage)) in
+    let t3 : List (Bool × ℕ) = (not (eqb (q .number) 0), q .number) ∷ t4 in
+    let t2 : List (Bool × ℕ) = (ltb 3 (e .standing), 2) ∷ t3 in
+    let next = changed (Entered (entryOf e (q .tonnage))) sh in
+    let m = c .before .before .before .before .before .before .before .before .measure-offsets .ensures in
+    let on = is-open sh t2 (holds (c .before .before .before .before .before .before .before .before .before .before .before .before .usable .ensures .usable-is) (c .before .before .before .before .before .before .before .before .before .before .before .if1 .left)) ∙ passes (ltb 3 (e .standing)) 2 t3 (le-ltb 3 (e .standing) (c .before .before .before .before .before .before .before .before .before .if2 .left)) ∙ passes (not (eqb (q .number) 0)) (q .number) t4 (ap not (eq-eqb (q .number) 0 (sym (ap (λ (x : Measured). x .number) m) ∙ c .before .before .before .before .before .before .if3 .left))) in
+    let x = c .before .before .before .before .before .space .ensures ∙ ap (λ (y : Measured). entryOf e (y .tonnage)) m in
+    let ch = ap Entered x in
+    let after = c .noted .ensures ∙ ap₂ noted ch (c .before .made .ensures ∙ ap (λ (y : Change). made y sh) ch) in
+    let none = on ∙ sym (c .before .before .before .entry-number .ensures ∙ ap (λ (y : Space). firstOf (entryTests (sh .length) (standing sh) y)) x) ∙ c .before .before .if4 .left in
+    ap (λ (y : Sheet). record { number = 0; sheet = y }) after ∙ ap (λ (k : ℕ). answered k sh next) (sym none)
+
+pub enter-spec : {M : Type 1} → statement M
+enter-spec =
+    tie.close
+    (tie.spec
+    usable-requires
+    returns
+    returns-2
+    measure-offsets-requires
+    returns-3
+    space-requires
+    entry-number-requires
+    returns-4
+    made-requires
+    noted-requires
+    returns-5)

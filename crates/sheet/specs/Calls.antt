@@ -1,0 +1,143 @@
+-- What each call on a sheet answers.
+use Prim.Native.Nat.{ℕ, _+_, _-_}
+use mathlib.Core.Bool.{Bool, true, false, cond, not, _&&_}
+use mathlib.Core.List.{List, [], _∷_, _++_}
+use lib.Dec.{eqb, ltb}
+use lib.ListN.{getD}
+use Rattle.measure.specs.Ranges.{within, tonnageLengths}
+use Rattle.measure.specs.Refusals.{firstOf}
+use Rattle.measure.specs.Volumes.{hundredths}
+use Rattle.measure.specs.Offsets.{measured}
+use Rattle.measure.specs.declared.offsets.Measured.{Measured}
+use Rattle.spaces.specs.Row.{find, placeOf, spaceWith, sumOf}
+use Rattle.spaces.specs.Rules.{entryTests, withdrawTests, markTests}
+use Rattle.spaces.specs.Gross.{gross, net, unjustified}
+use Rattle.spaces.specs.declared.space.Space.{Space}
+use Rattle.spaces.specs.declared.sums.Amount.the-variants.{Lengths}
+use Rattle.sheet.specs.Sheet.{standing, usable, noChange, blank}
+use Rattle.sheet.specs.Changes.{made, takenBack, withChanges, noted}
+use Rattle.sheet.specs.declared.changes.Change.{Change}
+use Rattle.sheet.specs.declared.changes.Change.the-variants.{Entered, Withdrawn, Marked}
+use Rattle.sheet.specs.declared.changes.OpenChange.{OpenChange}
+use Rattle.sheet.specs.declared.sheet.Sheet.{Sheet}
+use Rattle.sheet.specs.declared.calls.Entry.{Entry}
+use Rattle.sheet.specs.declared.calls.Changed.{Changed}
+use Rattle.sheet.specs.declared.calls.Counted.{Counted}
+use Rattle.sheet.specs.declared.calls.Reported.{Reported}
+
+-- "A sheet is opened with the tonnage length." "A refused open .. hands back a sheet not open."
+unfoldable pub openedWith : ℕ → Changed
+openedWith length =
+    cond (within tonnageLengths length)
+    (record { number = 0; sheet = blank true length })
+    (record { number = 2; sheet = blank false 0 })
+
+-- "A refused change, undo or redo hands back the sheet as it came."
+abbrev pub answered : ℕ → Sheet → Sheet → Changed
+answered number s next = record { number = number; sheet = cond (eqb number 0) next s }
+
+-- a change made, and noted as the latest
+abbrev pub changed : Change → Sheet → Sheet
+changed c s = noted c (made c s)
+
+-- ---- enter
+
+-- the record of an entry with its tonnage: "Only a room has an enclosing space", of any other kind 0 is recorded
+unfoldable pub entryOf : Entry → ℕ → Space
+entryOf e tonnage =
+    record {
+      id = e .id;
+      within = cond (eqb (e .kind) 5) (e .within) 0;
+      kind = e .kind;
+      standing = e .standing;
+      tonnage = tonnage;
+      length = e .length;
+    }
+
+abbrev pub measuredFor : Sheet → Entry → List ℕ → List ℕ → Measured
+measuredFor s e heights breadths = measured (e .kind) (hundredths (s .length)) (hundredths (e .length)) heights breadths
+
+abbrev pub enterNumber : Sheet → Entry → List ℕ → List ℕ → ℕ
+enterNumber s e heights breadths =
+    let m = measuredFor s e heights breadths in
+    firstOf
+    -- 1: sheet not open; 2: standing outside its range; 2 or 3, as its offsets are judged; then 4 to 10
+    ((not (usable s), 1)
+    ∷ (ltb 3 (e .standing), 2)
+    ∷ (not (eqb (m .number) 0), m .number)
+    ∷ entryTests (s .length) (standing s) (entryOf e (m .tonnage)))
+
+unfoldable pub entered : Sheet → Entry → List ℕ → List ℕ → Changed
+entered s e heights breadths =
+    let m = measuredFor s e heights breadths in
+    answered (enterNumber s e heights breadths) s (changed (Entered (entryOf e (m .tonnage))) s)
+
+-- ---- withdraw and mark
+
+abbrev pub withdrawal : Sheet → ℕ → Change
+withdrawal s id = Withdrawn (placeOf id (standing s)) (spaceWith (find id (standing s)))
+
+unfoldable pub withdrawn : Sheet → ℕ → Changed
+withdrawn s id =
+    answered (firstOf ((not (usable s), 1) ∷ withdrawTests (standing s) id)) s (changed (withdrawal s id) s)
+
+abbrev pub marking : Sheet → ℕ → ℕ → Change
+marking s id standing' = Marked (placeOf id (standing s)) (spaceWith (find id (standing s)) .standing) standing'
+
+unfoldable pub marked : Sheet → ℕ → ℕ → Changed
+marked s id standing' =
+    answered
+    (firstOf ((not (usable s), 1) ∷ (ltb 3 standing', 2) ∷ markTests (standing s) id standing'))
+    s
+    (changed (marking s id standing') s)
+
+-- ---- undo and redo
+
+-- the change at a place of the open ones
+abbrev pub changeAt : Sheet → ℕ → Change
+changeAt s i = getD (s .changes) i noChange .change
+
+abbrev pub recounted : ℕ → ℕ → Sheet → Sheet
+recounted undoable redoable s = withChanges (s .changes) undoable redoable s
+
+-- "Undo takes back the latest accepted change not undone, takes one from undoable and adds it to redoable"
+unfoldable pub undone : Sheet → Changed
+undone s =
+    answered
+    (firstOf ((not (usable s), 1) ∷ (eqb (s .undoable) 0, 12) ∷ []))
+    s
+    (recounted (s .undoable - 1) (s .redoable + 1) (takenBack (changeAt s (s .undoable - 1)) s))
+
+-- "redo makes again the change last undone, which is then undone no longer, and counts the opposite way"
+unfoldable pub redone : Sheet → Changed
+redone s =
+    answered
+    (firstOf ((not (usable s), 1) ∷ (eqb (s .redoable) 0, 12) ∷ []))
+    s
+    (recounted (s .undoable + 1) (s .redoable - 1) (made (changeAt s (s .undoable)) s))
+
+-- "Both counts can be asked for and are 0 on a sheet not open."
+unfoldable pub counted : Sheet → Counted
+counted s =
+    record { undoable = cond (usable s) (s .undoable) 0; redoable = cond (usable s) (s .redoable) 0; sheet = s }
+
+-- ---- report
+
+abbrev pub reportNumber : Sheet → ℕ → ℕ
+reportNumber s justified =
+    firstOf
+    ((not (usable s), 1)
+    ∷ (ltb 1 justified, 2)
+    -- 13: U lengths don't add up to the tonnage length
+    ∷ (not (eqb (sumOf Lengths (standing s)) (s .length)), 13)
+    -- 14: ballast over 30%, not justified
+    ∷ (unjustified (standing s) && eqb justified 0, 14)
+    ∷ [])
+
+-- "A refused report gives 0 and 0", and no report changes the sheet
+abbrev pub reportedWith : ℕ → Sheet → Reported
+reportedWith n s =
+    record { number = n; gross = cond (eqb n 0) (gross (standing s)) 0; net = cond (eqb n 0) (net (standing s)) 0; sheet = s }
+
+unfoldable pub reported : Sheet → ℕ → Reported
+reported s justified = reportedWith (reportNumber s justified) s

@@ -1,0 +1,7 @@
+-- The sheet, its changes and its report, as document 01 has them ("The sheet and its changes", "Gross and net", rows 1 to 14 of
+-- "Numbers of refusal"). Read these files from top to bottom.
+pub mod Sheet
+pub mod Changes
+pub mod Calls
+pub mod Resume
+pub mod Handed

@@ -1,0 +1,322 @@
+// The calls on a sheet. Each answers the paper's number, 0 where accepted, its values, and the sheet after it; a refused
+// change, undo or redo hands back the sheet as it came.
+use crate::changes::Change;
+use crate::sheet::Sheet;
+use measure::offsets::measure_offsets;
+use measure::ranges::tonnage_length_fits;
+use measure::units::Hundredths;
+use spaces::gross::reckon;
+use spaces::row::place_of;
+use spaces::row::space_with;
+use spaces::rules::entry_number;
+use spaces::rules::mark_number;
+use spaces::rules::withdraw_number;
+use spaces::space::ROOM;
+use spaces::space::Space;
+ghost use mathlib.Core.Path.{_≡_};
+ghost use mathlib.Core.Bool.{_&&_};
+ghost use lib.Dec.{eqb};
+ghost use Rattle.sheet.specs.Calls.{openedWith, entered, withdrawn, marked, undone, redone, counted, reported, entryOf};
+
+// What is entered: the enclosing id is looked at only of a room.
+pub struct Entry {
+    pub id: u16,
+    pub within: u16,
+    pub kind: u8,
+    pub standing: u8,
+    pub length: u32,
+}
+
+pub struct Changed {
+    pub number: u8,
+    pub sheet: Sheet,
+}
+
+pub struct Counted {
+    pub undoable: usize,
+    pub redoable: usize,
+    pub sheet: Sheet,
+}
+
+// Gross and net in hundredths of a ton, 0 and 0 where refused.
+pub struct Reported {
+    pub number: u8,
+    pub gross: u64,
+    pub net: u64,
+    pub sheet: Sheet,
+}
+
+impl Entry {
+    // The record of an entry, with its tonnage.
+    fn space(self, tonnage: u32) -> Space
+        ensures { λ r. ⌜ r ≡ entryOf self tonnage ⌝ }
+    {
+        let mut within = 0;
+        if self.kind == ROOM {
+            within = self.within;
+        }
+        Space {
+            id: self.id,
+            within,
+            kind: self.kind,
+            standing: self.standing,
+            tonnage,
+            length: self.length,
+        }
+    }
+}
+
+impl Sheet {
+    // A new sheet with a tonnage length; one not open where it is outside its range.
+    pub fn open(length: u32) -> Changed
+        ensures { λ r. ⌜ r ≡ openedWith length ⌝ }
+    {
+        if !tonnage_length_fits(Hundredths(length)) {
+            return Changed {
+                number: 2,
+                sheet: Sheet::blank(false, 0),
+            };
+        }
+        Changed {
+            number: 0,
+            sheet: Sheet::blank(true, length),
+        }
+    }
+
+    // Enters a space from its offsets.
+    pub fn enter(self, entry: Entry, heights: &[u32], breadths: &[u32]) -> Changed
+        ensures { λ r. ⌜ r ≡ entered self entry (now (heights .entry)) (now (breadths .entry)) ⌝ }
+    {
+        if !self.usable() {
+            return Changed {
+                number: 1,
+                sheet: self,
+            };
+        }
+        if 3 < entry.standing {
+            return Changed {
+                number: 2,
+                sheet: self,
+            };
+        }
+        let length = self.length;
+        let measured = measure_offsets(
+            entry.kind,
+            Hundredths(length),
+            Hundredths(entry.length),
+            heights,
+            breadths,
+        );
+        if measured.number != 0 {
+            return Changed {
+                number: measured.number,
+                sheet: self,
+            };
+        }
+        let x = entry.space(measured.tonnage);
+        let spaces = self.spaces;
+        let number = entry_number(spaces, self.count, length, x);
+        if number != 0 {
+            return Changed {
+                number,
+                sheet: self,
+            };
+        }
+        let change = Change::Entered(x);
+        Changed {
+            number: 0,
+            sheet: self.made(change).noted(change),
+        }
+    }
+
+    // Strikes out the space with an id.
+    pub fn withdraw(self, id: u16) -> Changed
+        ensures { λ r. ⌜ r ≡ withdrawn self id ⌝ }
+    {
+        if !self.usable() {
+            return Changed {
+                number: 1,
+                sheet: self,
+            };
+        }
+        let spaces = self.spaces;
+        let count = self.count;
+        let number = withdraw_number(spaces, count, id);
+        if number != 0 {
+            return Changed {
+                number,
+                sheet: self,
+            };
+        }
+        let change = Change::Withdrawn(place_of(spaces, count, id), space_with(spaces, count, id));
+        Changed {
+            number: 0,
+            sheet: self.made(change).noted(change),
+        }
+    }
+
+    // Gives the space with an id a new standing, even the same one.
+    pub fn mark(self, id: u16, standing: u8) -> Changed
+        ensures { λ r. ⌜ r ≡ marked self id standing ⌝ }
+    {
+        if !self.usable() {
+            return Changed {
+                number: 1,
+                sheet: self,
+            };
+        }
+        if 3 < standing {
+            return Changed {
+                number: 2,
+                sheet: self,
+            };
+        }
+        let spaces = self.spaces;
+        let count = self.count;
+        let number = mark_number(spaces, count, id, standing);
+        if number != 0 {
+            return Changed {
+                number,
+                sheet: self,
+            };
+        }
+        let before = space_with(spaces, count, id);
+        let change = Change::Marked(place_of(spaces, count, id), before.standing, standing);
+        Changed {
+            number: 0,
+            sheet: self.made(change).noted(change),
+        }
+    }
+
+    // Takes back the latest accepted change not undone.
+    pub fn undo(self) -> Changed
+        ensures { λ r. ⌜ r ≡ undone self ⌝ }
+    {
+        if !self.usable() {
+            return Changed {
+                number: 1,
+                sheet: self,
+            };
+        }
+        let n = self.undoable;
+        if n == 0 {
+            return Changed {
+                number: 12,
+                sheet: self,
+            };
+        }
+        let at = n - 1;
+        let latest = self.changes[at];
+        let change = latest.change;
+        let mut next = self.taken_back(change);
+        next.undoable = at;
+        next.redoable = self.redoable + 1;
+        Changed {
+            number: 0,
+            sheet: next,
+        }
+    }
+
+    // Makes again the change last undone.
+    pub fn redo(self) -> Changed
+        ensures { λ r. ⌜ r ≡ redone self ⌝ }
+    {
+        if !self.usable() {
+            return Changed {
+                number: 1,
+                sheet: self,
+            };
+        }
+        let m = self.redoable;
+        if m == 0 {
+            return Changed {
+                number: 12,
+                sheet: self,
+            };
+        }
+        let at = self.undoable;
+        let last = self.changes[at];
+        let change = last.change;
+        let mut next = self.made(change);
+        next.undoable = at + 1;
+        next.redoable = m - 1;
+        Changed {
+            number: 0,
+            sheet: next,
+        }
+    }
+
+    // How many changes are undoable and redoable; 0 and 0 on a sheet not open.
+    pub fn counts(self) -> Counted
+        ensures { λ r. ⌜ r ≡ counted self ⌝ }
+    {
+        if !self.usable() {
+            return Counted {
+                undoable: 0,
+                redoable: 0,
+                sheet: self,
+            };
+        }
+        Counted {
+            undoable: self.undoable,
+            redoable: self.redoable,
+            sheet: self,
+        }
+    }
+
+    // Gross and net; justified is 1 where the surveyor justifies the water ballast, else 0.
+    pub fn report(self, justified: u8) -> Reported
+        ensures { λ r. ⌜ r ≡ reported self justified ⌝ }
+    {
+        if !self.usable() {
+            return Reported {
+                number: 1,
+                gross: 0,
+                net: 0,
+                sheet: self,
+            };
+        }
+        if 1 < justified {
+            return Reported {
+                number: 2,
+                gross: 0,
+                net: 0,
+                sheet: self,
+            };
+        }
+        let spaces = self.spaces;
+        let r = reckon(spaces, self.count);
+        if r.lengths != self.length as u64 {
+            return Reported {
+                number: 13,
+                gross: 0,
+                net: 0,
+                sheet: self,
+            };
+        }
+        if needs_mark(r.unjustified, justified) {
+            return Reported {
+                number: 14,
+                gross: 0,
+                net: 0,
+                sheet: self,
+            };
+        }
+        Reported {
+            number: 0,
+            gross: r.gross,
+            net: r.net,
+            sheet: self,
+        }
+    }
+}
+
+// Ballast over 30%, and not justified.
+fn needs_mark(over: bool, justified: u8) -> bool
+    ensures { λ r. ⌜ r ≡ (over && eqb justified 0) ⌝ }
+{
+    if over {
+        return justified == 0;
+    }
+    false
+}

@@ -1,0 +1,149 @@
+// Changes to the standing spaces: made, taken back, and noted as the latest.
+use crate::row::with_place;
+use crate::row::without_oldest;
+use crate::row::without_place;
+use crate::sheet::Sheet;
+use spaces::space::Space;
+ghost use mathlib.Core.Path.{_≡_};
+ghost use Prim.Native.Nat.{min};
+ghost use Rattle.sheet.specs.Sheet.{standing as standingOf};
+ghost use Rattle.sheet.specs.Handed.{Places, OpenPlaces};
+ghost use Rattle.sheet.specs.Changes.{made as madeOf, takenBack, noted as notedOf, fitted, appended, withoutLast, removed, inserted, restood};
+
+pub enum Change {
+    Entered(Space),
+    // The place, from 0, and what stood there.
+    Withdrawn(usize, Space),
+    // The place, the standing before and the one after.
+    Marked(usize, u8, u8),
+}
+
+pub struct OpenChange {
+    pub change: Change,
+}
+
+impl Sheet {
+    // The spaces after a change.
+    pub(crate) fn made(self, change: Change) -> Sheet
+        requires { ⌜ Places self ⌝ }
+        ensures { λ r. ⌜ r ≡ madeOf change self ⌝ }
+    {
+        match change {
+            Change::Entered(x) => self.with_last(x),
+            Change::Withdrawn(p, _) => self.without(p),
+            Change::Marked(p, _, after) => self.restanding(p, after),
+        }
+    }
+
+    // The spaces before a change.
+    pub(crate) fn taken_back(self, change: Change) -> Sheet
+        requires { ⌜ Places self ⌝ }
+        ensures { λ r. ⌜ r ≡ takenBack change self ⌝ }
+    {
+        match change {
+            Change::Entered(_) => self.without_last(),
+            Change::Withdrawn(p, x) => self.with(p, x),
+            Change::Marked(p, before, _) => self.restanding(p, before),
+        }
+    }
+
+    fn with_last(self, x: Space) -> Sheet
+        requires { ⌜ Places self ⌝ }
+        ensures { λ r. ⌜ r ≡ fitted (appended x (standingOf self)) self ⌝ }
+    {
+        let count = self.count;
+        let mut next = self;
+        if count < 200 {
+            next.spaces[count] = x;
+            next.count = count + 1;
+        }
+        next
+    }
+
+    fn without_last(self) -> Sheet
+        requires { ⌜ Places self ⌝ }
+        ensures { λ r. ⌜ r ≡ fitted (withoutLast (standingOf self)) self ⌝ }
+    {
+        let count = self.count;
+        let mut next = self;
+        if 0 < count {
+            next.count = count - 1;
+        }
+        next
+    }
+
+    fn without(self, p: usize) -> Sheet
+        requires { ⌜ Places self ⌝ }
+        ensures { λ r. ⌜ r ≡ fitted (removed p (standingOf self)) self ⌝ }
+    {
+        let count = self.count;
+        let mut next = self;
+        if p < count {
+            let spaces = self.spaces;
+            let row = without_place(spaces, count, p);
+            next.spaces = row;
+            next.count = count - 1;
+        }
+        next
+    }
+
+    fn with(self, p: usize, x: Space) -> Sheet
+        requires { ⌜ Places self ⌝ }
+        ensures { λ r. ⌜ r ≡ fitted (inserted p x (standingOf self)) self ⌝ }
+    {
+        let count = self.count;
+        let mut next = self;
+        if count < 200 {
+            let spaces = self.spaces;
+            let row = with_place(spaces, count, least(p, count), x);
+            next.spaces = row;
+            next.count = count + 1;
+        }
+        next
+    }
+
+    fn restanding(self, p: usize, standing: u8) -> Sheet
+        requires { ⌜ Places self ⌝ }
+        ensures { λ r. ⌜ r ≡ fitted (restood p standing (standingOf self)) self ⌝ }
+    {
+        let count = self.count;
+        let mut next = self;
+        if p < count {
+            let spaces = self.spaces;
+            let mut x = spaces[p];
+            x.standing = standing;
+            next.spaces[p] = x;
+        }
+        next
+    }
+
+    // A change noted as the latest: 64 at the most, the oldest pushed out, and nothing left to redo.
+    pub(crate) fn noted(self, change: Change) -> Sheet
+        requires { ⌜ OpenPlaces self ⌝ }
+        ensures { λ r. ⌜ r ≡ notedOf change self ⌝ }
+    {
+        let n = self.undoable;
+        let latest = OpenChange { change };
+        let mut next = self;
+        next.redoable = 0;
+        if n < 64 {
+            next.changes[n] = latest;
+            next.undoable = n + 1;
+            return next;
+        }
+        let changes = self.changes;
+        let mut kept = without_oldest(changes);
+        kept[63] = latest;
+        next.changes = kept;
+        next
+    }
+}
+
+fn least(a: usize, b: usize) -> usize
+    ensures { λ r. ⌜ r ≡ min a b ⌝ }
+{
+    if a < b {
+        return a;
+    }
+    b
+}

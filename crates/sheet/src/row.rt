@@ -1,0 +1,79 @@
+// The arrays of a sheet: a place taken out, a place put in.
+use crate::changes::OpenChange;
+use spaces::space::Space;
+ghost use mathlib.Core.Path.{_≡_};
+ghost use mathlib.Core.List.{_∷_};
+ghost use Prim.Native.Nat.{_+_, _-_, _≤_, _<_};
+ghost use lib.ListN.{length, drop};
+ghost use lib.Seq.{paste};
+
+// Places for spaces, and for open changes. The `ensures` says it of the array too, which a struct's field doesn't tell.
+pub(crate) fn places_of(spaces: [Space; 200]) -> usize
+    ensures { λ r. ⌜ (r ≡ 200) × (length spaces ≡ 200) ⌝ }
+{
+    200
+}
+
+pub(crate) fn open_places_of(changes: [OpenChange; 64]) -> usize
+    ensures { λ r. ⌜ (r ≡ 64) × (length changes ≡ 64) ⌝ }
+{
+    64
+}
+
+// The place p taken out of the first `count`, and those after it each one place nearer.
+pub(crate) fn without_place(spaces: [Space; 200], count: usize, p: usize) -> [Space; 200]
+    requires { ⌜ (count ≤ 200) × (p < count) ⌝ }
+    ensures { λ r. ⌜ r ≡ paste spaces p (drop (p + 1) spaces) (count - (p + 1)) ⌝ }
+{
+    let mut row = spaces;
+    let mut i = p;
+    while i + 1 < count {
+        row[i] = row[i + 1];
+        i += 1;
+    }
+    row
+}
+
+// A space put in at the place p, and those from p on each one place further.
+pub(crate) fn with_place(spaces: [Space; 200], count: usize, p: usize, x: Space) -> [Space; 200]
+    requires { ⌜ (count < 200) × (p ≤ count) ⌝ }
+    ensures { λ r. ⌜ r ≡ paste spaces p (x ∷ drop p spaces) (count + 1 - p) ⌝ }
+{
+    let mut row = spaces;
+    let mut carried = x;
+    let mut i = p;
+    while i <= count {
+        let next = row[i];
+        row[i] = carried;
+        carried = next;
+        i += 1;
+    }
+    row
+}
+
+// The changes with the oldest pushed out.
+pub(crate) fn without_oldest(changes: [OpenChange; 64]) -> [OpenChange; 64]
+    ensures { λ r. ⌜ r ≡ paste changes 0 (drop 1 changes) 63 ⌝ }
+{
+    let mut row = changes;
+    let mut i: usize = 0;
+    while i + 1 < 64 {
+        row[i] = row[i + 1];
+        i += 1;
+    }
+    row
+}
+
+// The first n places of another array in the place of its own.
+pub(crate) fn with_first(spaces: [Space; 200], other: [Space; 200], n: usize) -> [Space; 200]
+    requires { ⌜ n ≤ 200 ⌝ }
+    ensures { λ r. ⌜ r ≡ paste spaces 0 other n ⌝ }
+{
+    let mut row = spaces;
+    let mut i = 0;
+    while i < n {
+        row[i] = other[i];
+        i += 1;
+    }
+    row
+}
