@@ -1,4 +1,4 @@
-# `make run` measures the example barge; `make test` proves and tests everything.
+# `make run` surveys the example barge; `make test` proves and tests everything.
 KIT := rattle-kit-5b logic 064da1ca440f63e7
 
 .PHONY: test run stored kit
@@ -11,10 +11,10 @@ test: kit
 	@rt ci
 	@python3 tools/edits.py
 
-# Proves the library and the program over it, then measures the spaces of the paper's whole sheet.
+# Proves the library and the program over it, then plays the example barge's morning.
 run: kit
-	@rt check figures > target/run.log 2>&1 || { cat target/run.log; exit 1; }
-	@target/bin/figures < examples/barge.txt
+	@rt check survey > target/run.log 2>&1 || { cat target/run.log; exit 1; }
+	@target/bin/survey < examples/barge.txt
 
 # Writes every stored input and expected output anew, from the second program.
 stored:

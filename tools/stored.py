@@ -9,23 +9,29 @@ from pathlib import Path
 
 sys.path.insert(0, '.')
 
-from reference import figures  # noqa: E402
+from reference import figures, scripts, survey  # noqa: E402
 
 
-def stored() -> dict[Path, str]:
-    script = figures.script()
-    crate = Path('crates/figures')
-    return {crate / 'stdin': script, crate / 'stdout': figures.answers(script)}
+def stored() -> dict[Path, bytes]:
+    """Each stored file, with what the reference prints for it: a program's script and the answers to it."""
+    files = {}
+    for name, script, answers in (
+        ('figures', figures.script(), figures.answers),
+        ('survey', scripts.standard(), survey.answers),
+    ):
+        files[Path('crates', name, 'stdin')] = script.encode('ascii')
+        files[Path('crates', name, 'stdout')] = answers(script).encode('ascii')
+    return files
 
 
 def main() -> int:
-    stale = [path for path, text in stored().items() if not path.exists() or path.read_text() != text]
+    stale = [path for path, text in stored().items() if not path.exists() or path.read_bytes() != text]
     if '--check' in sys.argv:
         for path in stale:
             print(f'{path} is not what the reference prints: run `make stored`')
         return 1 if stale else 0
     for path in stale:
-        path.write_text(stored()[path])
+        path.write_bytes(stored()[path])
         print('wrote', path)
     return 0
 

@@ -1,0 +1,50 @@
+-- The starred figures of document 01, all of them, as one table about the definitions: those of one space (measure_laws) and those
+-- of gross and the water ballast, on sheets of a few recorded spaces.
+use Prim.Native.Nat.{ℕ}
+use mathlib.Core.Path.{_≡_, refl}
+use mathlib.Core.Bool.{true}
+use mathlib.Core.List.{List, [], _∷_}
+use Rattle.measure.specs.Rounding.{nearest}
+use Rattle.measure.specs.Allowances.{hatchwayAllowance, hatchwayExcess, ballastOver}
+use Rattle.measure_laws.proofs.Figures as measured
+use Rattle.spaces.specs.Gross.{grossOver, gross, net, unjustified}
+use Rattle.spaces.specs.declared.space.Space.{Space}
+use Rattle.sheet.specs.Sheet.{usable, blank}
+use Rattle.sheet.specs.Changes.{withStanding}
+use Rattle.sheet.specs.Calls.{reported}
+use Rattle.sheet.specs.declared.sheet.Sheet.{Sheet}
+
+-- a U as long as the tonnage length 4800, a hatchway, and a water ballast room in the U, of these tonnages
+abbrev pub hull : ℕ → Space
+hull tonnage = record { id = 1; within = 0; kind = 1; standing = 0; tonnage = tonnage; length = 4800 }
+
+abbrev pub hatchway : ℕ → Space
+hatchway tonnage = record { id = 2; within = 0; kind = 4; standing = 0; tonnage = tonnage; length = 500 }
+
+abbrev pub ballast : ℕ → Space
+ballast tonnage = record { id = 3; within = 1; kind = 5; standing = 2; tonnage = tonnage; length = 500 }
+
+abbrev pub sheet : List Space → Sheet
+sheet xs = withStanding xs (blank true 4800)
+
+pub record Starred : Type 0 where
+  pub of-one-space : measured.Figures
+  -- "G 20000, hatchways 100 / 101: excess 0 / 1"
+  pub excess-100 : gross (hull 20000 ∷ hatchway 100 ∷ []) ≡ 20000
+  pub excess-101 : gross (hull 20000 ∷ hatchway 101 ∷ []) ≡ 20001
+  -- "ballast 300 / 301, where gross with only standing 1 taken off is 1000, not justified: given / 14"
+  pub ballast-300 : reported (sheet (hull 1000 ∷ ballast 300 ∷ [])) 0 .number ≡ 0
+  pub ballast-301 : reported (sheet (hull 1000 ∷ ballast 301 ∷ [])) 0 .number ≡ 14
+  pub justified-301 : reported (sheet (hull 1000 ∷ ballast 301 ∷ [])) 1 .number ≡ 0
+
+pub starred : Starred
+unfolding nearest hatchwayAllowance hatchwayExcess ballastOver grossOver gross net unjustified usable blank reported
+starred =
+    record {
+      of-one-space = measured.figures;
+      excess-100 = refl;
+      excess-101 = refl;
+      ballast-300 = refl;
+      ballast-301 = refl;
+      justified-301 = refl;
+    }

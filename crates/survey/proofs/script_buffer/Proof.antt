@@ -1,0 +1,12 @@
+-- `script_buffer` meets its contract, by the length of a repeat: a million elements are not to be counted out.
+use Prim.Native.Nat.{ℕ}
+use mathlib.Core.Path.{sym}
+use lib.ListN.{length-replicate}
+use Rattle.survey.proofs.script_buffer.Statement.{statement}
+use Rattle.survey.proofs.script_buffer.Tie as tie
+
+returns : tie.Need-returns
+returns c = sym (length-replicate {0} {A = ℕ} 1048577 0)
+
+pub script-buffer-spec : {M : Type 1} → statement M
+script-buffer-spec = tie.close (tie.spec returns)

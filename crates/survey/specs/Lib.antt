@@ -1,0 +1,2 @@
+-- The protocol of the program, as far as its words go.
+pub mod Words

@@ -1,0 +1,95 @@
+-- Words of a line, and the numbers and lists in them ("Lines" and "Arguments" of the protocol).
+use Prim.Native.Nat.{ℕ, zero, suc, _+_, _*_, _-_, _<_, min}
+use mathlib.Core.Path.{_≡_}
+use mathlib.Core.Bool.{Bool, true, false, cond, _&&_}
+use mathlib.Core.List.{List, [], _∷_}
+use lib.Dec.{leb, eqb}
+use lib.ListN.{length, getD}
+use Rattle.survey.specs.declared.words.Number.{Number}
+use Rattle.survey.specs.declared.words.Number.the-variants.{Value, NotANumber, TooLarge}
+
+-- ---- parts of a text: a script is cut at its line ends, a line at its spaces, a list at its commas
+
+-- the first part, up to the first mark
+abbrev pub first : ℕ → List ℕ → List ℕ
+first mark [] = []
+first mark (x ∷ xs) = cond (eqb x mark) [] (x ∷ first mark xs)
+
+-- what is behind the first mark; nothing where there is none
+abbrev pub rest : ℕ → List ℕ → List ℕ
+rest mark [] = []
+rest mark (x ∷ xs) = cond (eqb x mark) xs (rest mark xs)
+
+-- what is behind k marks
+abbrev pub behind : ℕ → ℕ → List ℕ → List ℕ
+behind mark zero xs = xs
+behind mark (suc k) xs = behind mark k (rest mark xs)
+
+-- the part at a place from 0
+abbrev pub partAt : ℕ → ℕ → List ℕ → List ℕ
+partAt mark k xs = first mark (behind mark k xs)
+
+-- a text has one part more than marks
+abbrev pub marksIn : ℕ → List ℕ → ℕ
+marksIn mark [] = 0
+marksIn mark (x ∷ xs) = cond (eqb x mark) 1 0 + marksIn mark xs
+
+abbrev pub sameText : List ℕ → List ℕ → Bool
+sameText [] [] = true
+sameText [] (y ∷ ys) = false
+sameText (x ∷ xs) [] = false
+sameText (x ∷ xs) (y ∷ ys) = eqb x y && sameText xs ys
+
+-- "Words are separated by exactly one space"
+abbrev pub wordAt : ℕ → List ℕ → List ℕ
+wordAt k line = partAt 32 k line
+
+-- ---- "A number is [0-9]+ with a value from 0 to 2^64-1"
+
+abbrev pub isDigit : ℕ → Bool
+isDigit x = leb 48 x && leb x 57
+
+abbrev pub allDigits : List ℕ → Bool
+allDigits [] = true
+allDigits (x ∷ xs) = isDigit x && allDigits xs
+
+-- the value of digits behind others whose value is v
+abbrev pub valueBehind : ℕ → List ℕ → ℕ
+valueBehind v [] = v
+valueBehind v (x ∷ xs) = valueBehind (v * 10 + (x - 48)) xs
+
+unfoldable pub held : ℕ → Number
+held v = cond (leb v 18446744073709551615) (Value v) TooLarge
+
+abbrev pub numberOf : List ℕ → Number
+numberOf [] = NotANumber
+numberOf (x ∷ xs) = cond (allDigits (x ∷ xs)) (held (valueBehind 0 (x ∷ xs))) NotANumber
+
+abbrev pub valueIn : Number → ℕ
+valueIn (Value x) = x
+valueIn NotANumber = 0
+valueIn TooLarge = 0
+
+-- "A value above what the library's own type holds .. is handed on as the type's greatest value"
+abbrev pub idOf : List ℕ → ℕ
+idOf word = min (valueIn (numberOf word)) 65535
+
+abbrev pub codeOf : List ℕ → ℕ
+codeOf word = min (valueIn (numberOf word)) 255
+
+abbrev pub measureOf : List ℕ → ℕ
+measureOf word = min (valueIn (numberOf word)) 4294967295
+
+-- ---- "A list is numbers joined by ',', or '-' for the empty list"
+
+abbrev pub isEmptyList : List ℕ → Bool
+isEmptyList list = sameText list (45 ∷ [])
+
+abbrev pub countOf : List ℕ → ℕ
+countOf list = cond (isEmptyList list) 0 (suc (marksIn 44 list))
+
+-- r numbers of a list laid into an array
+pub record Laid (list before after : List ℕ) (r : ℕ) : Type 0 where
+  -- all of them, or as many as the array holds
+  pub all : r ≡ min (countOf list) (length before)
+  pub each : (k : ℕ) → k < r → getD after k 0 ≡ measureOf (partAt 44 k list)

@@ -1,0 +1,80 @@
+// Answer lines. The first number of each is the paper's number of refusal, 0 for accepted; a line that is no call is
+// answered by a remark. What a call handed back is answered, and its sheet handed on.
+use crate::calls::Remark;
+use libc::STDOUT_FILENO;
+use sheet::Changed;
+use sheet::Counted;
+use sheet::Reported;
+use sheet::Sheet;
+use spaces::space::Space;
+
+pub fn remark(remark: Remark) {
+    match remark {
+        Remark::UnknownCall => print(b"? unknown call\n"),
+        Remark::WrongNumberOfWords => print(b"? wrong number of words\n"),
+        Remark::NotANumber => print(b"? not a number\n"),
+        Remark::NumberTooLarge => print(b"? number too large\n"),
+        Remark::ListTooLong => print(b"? list too long\n"),
+        Remark::ScriptTooLong => print(b"? script too long\n"),
+        Remark::NotYet => print(b"? not yet\n"),
+    }
+}
+
+pub fn changed(changed: Changed) -> Sheet {
+    print_number(changed.number as u64, b"\n");
+    changed.sheet
+}
+
+pub fn counted(counted: Counted) -> Sheet {
+    print(b"0 ");
+    print_number(counted.undoable as u64, b" ");
+    print_number(counted.redoable as u64, b"\n");
+    counted.sheet
+}
+
+pub fn reported(reported: Reported) -> Sheet {
+    print_number(reported.number as u64, b" ");
+    print_number(reported.gross, b" ");
+    print_number(reported.net, b"\n");
+    reported.sheet
+}
+
+// Whether the sheet is open, its tonnage length, how many spaces stand, and each of them.
+pub fn spaces(sheet: Sheet) -> Sheet {
+    print(b"0 ");
+    print_number(sheet.is_open() as u64, b" ");
+    print_number(sheet.tonnage_length() as u64, b" ");
+    print_number(sheet.standing_count() as u64, b"");
+    print_spaces(sheet);
+    print(b"\n");
+    sheet
+}
+
+// Each standing space in order of entry.
+fn print_spaces(sheet: Sheet) {
+    let count = sheet.standing_count();
+    let mut place = 0;
+    while place < count {
+        print_space(sheet.space_at(place));
+        place += 1;
+    }
+}
+
+fn print_space(space: Space) {
+    print(b" ");
+    print_number(space.id as u64, b":");
+    print_number(space.within as u64, b":");
+    print_number(space.kind as u64, b":");
+    print_number(space.standing as u64, b":");
+    print_number(space.tonnage as u64, b":");
+    print_number(space.length as u64, b"");
+}
+
+fn print_number(x: u64, behind: &[u8]) {
+    io::print_decimal(STDOUT_FILENO, x);
+    print(behind);
+}
+
+fn print(text: &[u8]) {
+    io::write_all(STDOUT_FILENO, text);
+}
