@@ -13,7 +13,7 @@ use Rattle.spaces.specs.declared.sums.Amount.the-variants.{Inside, Lengths}
 use Rattle.spaces.specs.Space.{isUnderDeck, isHatchway, isRoom, isPlain, mayTake}
 use Rattle.spaces.specs.Row.{find, isSome, sumOf}
 use Rattle.spaces.specs.Enclosure.{enclosing, above, level, allPlain}
-use Rattle.spaces.specs.Rules.{idRefused, unhoused, inHatchway, misplaced, tooDeep, offTwice, passesEnclosing, overfull, noPlace, entryNumber}
+use Rattle.spaces.specs.Rules.{idRefused, unhoused, inHatchway, misplaced, tooDeep, offTwice, passesEnclosing, overfull, noPlace, entryTests, entryNumber}
 use Rattle.spaces_laws.proofs.Tests.{by-test, or-fails, or-fails-of, and-fails, and-fails-of}
 use Rattle.spaces_laws.proofs.Refusals.{none-applies, accepted-of-none}
 use Rattle.spaces_laws.proofs.Lists.{some-of, none-of}
@@ -37,18 +37,6 @@ pub record Accepted (L : ℕ) (xs : List Space) (x : Space) : Type 0 where
   pub rooms-fit : (r : isRoom x ≡ true) → sumOf (Inside (x .within)) xs + x .tonnage ≤ enclosed r .home .tonnage
   pub lengths-fit : isUnderDeck x ≡ true → sumOf Lengths xs + x .length ≤ L
   pub place-left : length xs < 200
-
--- the tests of `entryNumber`
-abbrev entryTests : ℕ → List Space → Space → List (Bool × ℕ)
-entryTests L xs x =
-    (idRefused xs x, 4)
-    ∷ (unhoused xs x, 5)
-    ∷ (misplaced xs x, 6)
-    ∷ (tooDeep xs x, 7)
-    ∷ (offTwice xs x, 8)
-    ∷ (overfull L xs x, 9)
-    ∷ (noPlace xs, 10)
-    ∷ []
 
 -- the tests that look at the enclosing space
 module _ (xs : List Space) (x : Space) where

@@ -1,2 +1,2 @@
--- The protocol of the program, as far as its words go.
+-- What the program reads of a script (the protocol of reference/survey.py).
 pub mod Words

@@ -58,13 +58,16 @@ abbrev pub valueBehind : ℕ → List ℕ → ℕ
 valueBehind v [] = v
 valueBehind v (x ∷ xs) = valueBehind (v * 10 + (x - 48)) xs
 
+-- a value up to 2^64-1
 unfoldable pub held : ℕ → Number
 held v = cond (leb v 18446744073709551615) (Value v) TooLarge
 
+-- what a word is as a number: judged as digits first, whatever their value
 abbrev pub numberOf : List ℕ → Number
 numberOf [] = NotANumber
 numberOf (x ∷ xs) = cond (allDigits (x ∷ xs)) (held (valueBehind 0 (x ∷ xs))) NotANumber
 
+-- its value; 0 where it is none
 abbrev pub valueIn : Number → ℕ
 valueIn (Value x) = x
 valueIn NotANumber = 0
@@ -85,6 +88,7 @@ measureOf word = min (valueIn (numberOf word)) 4294967295
 abbrev pub isEmptyList : List ℕ → Bool
 isEmptyList list = sameText list (45 ∷ [])
 
+-- how many numbers a list has
 abbrev pub countOf : List ℕ → ℕ
 countOf list = cond (isEmptyList list) 0 (suc (marksIn 44 list))
 

@@ -1,6 +1,6 @@
-// A script of calls on one current sheet, and an answer line for each: how a newcomer tries the library, how a survey is
-// replayed, and how the library is held against the second program (reference/survey.py), whose protocol this is. What it
-// prints is tested, not proved.
+// A script of calls on one current sheet, and an answer line for each: how a newcomer tries the library, how a survey
+// is replayed, and how the library is held against the second program (reference/survey.py), whose protocol this is.
+// What it prints is tested, not proved.
 mod answers;
 mod calls;
 mod words;
@@ -28,8 +28,8 @@ fn main() {
     answer_lines(&text[..n]);
 }
 
-// Room for a script and a byte more, by which one too long is told. The `ensures` gives only the length, which lending the
-// array as a slice needs.
+// Room for a script and a byte more, by which one too long is told. The `ensures` gives only the length, which lending
+// the array as a slice needs.
 fn script_buffer() -> [u8; 1048577]
     ensures { λ r. ⌜ 1048577 ≡ length r ⌝ }
 {

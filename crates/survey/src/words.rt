@@ -6,8 +6,8 @@ ghost use Prim.Native.Nat.{_+_, _≤_};
 ghost use lib.ListN.{length, drop};
 ghost use Rattle.io.specs.Counts.{Counts};
 ghost use Rattle.survey.specs.Words.{first, behind, marksIn, sameText, wordAt};
-ghost use Rattle.survey.specs.Words.{isDigit, allDigits, valueBehind, held, numberOf, valueIn, idOf, codeOf, measureOf};
-ghost use Rattle.survey.specs.Words.{isEmptyList, Laid};
+ghost use Rattle.survey.specs.Words.{isDigit, allDigits, valueBehind, held, numberOf, valueIn};
+ghost use Rattle.survey.specs.Words.{idOf, codeOf, measureOf, isEmptyList, Laid};
 
 // A word as a number: one or more digits, zeros in front too, with a value from 0 to 2^64-1.
 pub enum Number {

@@ -1,6 +1,6 @@
 -- Lists laid into an array: none of a list, one more, and all that it has or the array holds.
-use Prim.Native.Nat.{ℕ, suc, _+_, _≤_, _<_, min}
-use mathlib.Core.Path.{_≡_, sym, ap, _∙_}
+use Prim.Native.Nat.{ℕ, suc, _+_, _≤_, _<_}
+use mathlib.Core.Path.{_≡_, ap, _∙_}
 use mathlib.Core.Bool.{Bool, true, false, cond}
 use mathlib.Core.List.{List}
 use native.Mathlib.Omega.{arith}
@@ -9,11 +9,6 @@ use lib.ListN.{length, getD, set}
 use lib.Seq.{getD-set-same, getD-set-other}
 use Rattle.survey.specs.Words.{partAt, marksIn, measureOf, isEmptyList, countOf, Laid}
 use Rattle.survey.proofs.laws.Parts.{Passed}
-
-pub laid-none : (list before : List ℕ) → isEmptyList list ≡ true → Laid list before before 0
-laid-none list before e =
-    let n : countOf list ≡ 0 = ap (λ (b : Bool). cond b 0 (suc (marksIn 44 list))) e in
-    record { all = omega arith; each = below-none (λ k. getD before k 0 ≡ measureOf (partAt 44 k list)) }
 
 -- the first n numbers of a list stand in an array
 abbrev pub First : List ℕ → List ℕ → ℕ → Type 0
@@ -27,6 +22,11 @@ first-more list after n v each h e =
     below-more (λ k. getD (set after n v) k 0 ≡ measureOf (partAt 44 k list)) n
     (λ k l. getD-set-other after n k v 0 (λ q. omega arith) ∙ each k l)
     (getD-set-same after n v 0 h ∙ e)
+
+pub laid-none : (list before : List ℕ) → isEmptyList list ≡ true → Laid list before before 0
+laid-none list before e =
+    let n : countOf list ≡ 0 = ap (λ (b : Bool). cond b 0 (suc (marksIn 44 list))) e in
+    record { all = omega arith; each = first-none list before }
 
 module _ (list before after : List ℕ) (n at : ℕ) (p : Passed 44 list n at) (e : isEmptyList list ≡ false) (each : First list after n) where
   counted : countOf list ≡ suc (marksIn 44 list)

@@ -1,14 +1,12 @@
 -- Numbers: digits passed, and the values that are held.
-use Prim.Native.Nat.{ℕ, zero, suc, _+_, _*_, _-_, _≤_, _<_}
+use Prim.Native.Nat.{ℕ, _+_, _*_, _-_, _≤_, _<_}
 use mathlib.Core.Path.{_≡_, refl, sym, ap, _∙_}
 use mathlib.Core.Bool.{Bool, true, false, cond, _&&_}
 use mathlib.Core.List.{List, [], _∷_}
 use native.Mathlib.Omega.{arith}
 use borrow.Author.Tests.{le-leb, lt-leb, leb-true}
-use lib.Dec.{leb}
 use lib.ListN.{length, drop, getD, drop-of-length-le}
 use Rattle.survey.specs.Words.{isDigit, allDigits, valueBehind, held, numberOf}
-use Rattle.survey.specs.declared.words.Number.{Number}
 use Rattle.survey.specs.declared.words.Number.the-variants.{Value, NotANumber, TooLarge}
 use Rattle.survey.proofs.laws.Parts.{ahead}
 

@@ -14,6 +14,7 @@ use Rattle.survey.specs.Words.{first, rest, behind, partAt, marksIn, sam
 
 -- ---- at a place of a text
 
+-- the text from a place on, by its first byte
 pub ahead : (xs : List ℕ) (i : ℕ) → i < length xs → drop i xs ≡ getD xs i 0 ∷ drop (i + 1) xs
 ahead xs i h = drop-cons xs i 0 h ∙ ap (λ (k : ℕ). getD xs i 0 ∷ drop k xs) (sym (add-one i))
 
@@ -64,7 +65,7 @@ behind-ended m k xs i h =
 
 -- ---- the first part, and what is behind it
 
-pub take-first : (m : ℕ) (xs : List ℕ) → take (length (first m xs)) xs ≡ first m xs
+take-first : (m : ℕ) (xs : List ℕ) → take (length (first m xs)) xs ≡ first m xs
 take-first m [] = refl
 take-first m (x ∷ xs) =
     elim (eqb x m) as (λ b. take (length (cond b [] (x ∷ first m xs))) (x ∷ xs) ≡ cond b [] (x ∷ first m xs))

@@ -1,5 +1,5 @@
 -- `words::value_of` meets its contract. The loop's invariant: the digits left, behind the value so far, have the value of all.
-use Prim.Native.Nat.{_+_, _*_, _-_, _≤_}
+use Prim.Native.Nat.{_+_, _-_, _≤_}
 use mathlib.Core.Path.{_≡_, refl, sym, ap, _∙_}
 use mathlib.Core.Bool.{true}
 use lib.ListN.{length, drop}

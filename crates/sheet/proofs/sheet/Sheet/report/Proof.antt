@@ -1,13 +1,14 @@
 -- `Sheet::report` meets its contract: the tests of 1, 2, 13 and 14, and the figures reckoned.
-use mathlib.Core.Path.{_≡_, sym, ap, ap₂, _∙_}
-use mathlib.Core.Bool.{Bool, cond, not, _&&_}
+use mathlib.Core.Path.{_≡_, sym, ap, _∙_}
+use mathlib.Core.Bool.{Bool, true, cond, not, _&&_}
 use mathlib.Core.List.{List, [], _∷_}
-use Prim.Native.Nat.{ℕ}
+use Prim.Native.Nat.{ℕ, _≤_}
 use Rattle.measure.proofs.laws.Tests.{holds, fails}
 use borrow.Author.Tests.{lt-ltb, le-ltb, ne-eqb, eq-eqb}
 use lib.Dec.{eqb, ltb}
+use Rattle.measure.specs.Refusals.{firstOf}
 use Rattle.spaces.specs.Row.{sumOf}
-use Rattle.spaces.specs.Gross.{gross, net, unjustified, reckoned}
+use Rattle.spaces.specs.Gross.{unjustified}
 use Rattle.spaces.specs.declared.sums.Amount.the-variants.{Lengths}
 use Rattle.spaces.specs.declared.gross.Reckoning.{Reckoning}
 use Rattle.sheet.specs.Sheet.{standing, usable}
@@ -19,6 +20,24 @@ use borrow.Author.Needs.{needs}
 use Rattle.sheet.proofs.sheet.Sheet.report.Statement.{statement}
 use Rattle.sheet.proofs.sheet.Sheet.report.Tie as tie
 
+-- the tests from the one of a number on
+abbrev from-14 : Sheet → ℕ → List (Bool × ℕ)
+from-14 s j = (unjustified (standing s) && eqb j 0, 14) ∷ []
+
+abbrev from-13 : Sheet → ℕ → List (Bool × ℕ)
+from-13 s j = (not (eqb (sumOf Lengths (standing s)) (s .length)), 13) ∷ from-14 s j
+
+abbrev from-2 : Sheet → ℕ → List (Bool × ℕ)
+from-2 s j = (ltb 1 j, 2) ∷ from-13 s j
+
+-- 1 and 2 are passed over, and then 13
+past-2 : (s : Sheet) (j : ℕ) → usable s ≡ true → j ≤ 1 → firstOf ((not (usable s), 1) ∷ from-2 s j) ≡ firstOf (from-13 s j)
+past-2 s j on one = is-open s (from-2 s j) on ∙ passes (ltb 1 j) 2 (from-13 s j) (le-ltb 1 j one)
+
+past-13 : (s : Sheet) (j : ℕ) → usable s ≡ true → j ≤ 1 → sumOf Lengths (standing s) ≡ s .length → firstOf ((not (usable s), 1) ∷ from-2 s j) ≡ firstOf (from-14 s j)
+past-13 s j on one full =
+    past-2 s j on one ∙ passes (not (eqb (sumOf Lengths (standing s)) (s .length))) 13 (from-14 s j) (ap not (eq-eqb (sumOf Lengths (standing s)) (s .length) full))
+
 usable-requires : tie.Need-usable-requires
 usable-requires c κs = search needs
 
@@ -28,12 +47,7 @@ returns c =
     let s = c .before .before in
     let sh = s .args .self in
     let j = s .args .justified in
-    let xs = standing sh in
-    let t14 : List (Bool × ℕ) = (unjustified xs && eqb j 0, 14) ∷ [] in
-    let t13 : List (Bool × ℕ) = (not (eqb (sumOf Lengths xs) (sh .length)), 13) ∷ t14 in
-    let t2 : List (Bool × ℕ) = (ltb 1 j, 2) ∷ t13 in
-    let answer : ℕ → Reported = λ n. reportedWith n sh in
-    ap answer (sym (not-open sh t2 (fails (c .before .usable .ensures .usable-is) (c .if1 .taken))))
+    ap (λ (n : ℕ). reportedWith n sh) (sym (not-open sh (from-2 sh j) (fails (c .before .usable .ensures .usable-is) (c .if1 .taken))))
 
 returns-2 : tie.Need-returns-2
 unfolding reported
@@ -41,13 +55,8 @@ returns-2 c =
     let s = c .before .before .before in
     let sh = s .args .self in
     let j = s .args .justified in
-    let xs = standing sh in
-    let t14 : List (Bool × ℕ) = (unjustified xs && eqb j 0, 14) ∷ [] in
-    let t13 : List (Bool × ℕ) = (not (eqb (sumOf Lengths xs) (sh .length)), 13) ∷ t14 in
-    let t2 : List (Bool × ℕ) = (ltb 1 j, 2) ∷ t13 in
-    let answer : ℕ → Reported = λ n. reportedWith n sh in
-    let on = is-open sh t2 (holds (c .before .before .usable .ensures .usable-is) (c .before .if1 .left)) in
-    ap answer (sym (on ∙ applies (ltb 1 j) 2 t13 (lt-ltb 1 j (c .if2 .taken))))
+    let on = is-open sh (from-2 sh j) (holds (c .before .before .usable .ensures .usable-is) (c .before .if1 .left)) in
+    ap (λ (n : ℕ). reportedWith n sh) (sym (on ∙ applies (ltb 1 j) 2 (from-13 sh j) (lt-ltb 1 j (c .if2 .taken))))
 
 reckon-requires : tie.Need-reckon-requires
 reckon-requires c κs = search needs
@@ -61,15 +70,11 @@ returns-3 c =
     let s = c .before .before .before .before .before .before .before .before in
     let sh = s .args .self in
     let j = s .args .justified in
-    let xs = standing sh in
-    let t14 : List (Bool × ℕ) = (unjustified xs && eqb j 0, 14) ∷ [] in
-    let t13 : List (Bool × ℕ) = (not (eqb (sumOf Lengths xs) (sh .length)), 13) ∷ t14 in
-    let t2 : List (Bool × ℕ) = (ltb 1 j, 2) ∷ t13 in
-    let answer : ℕ → Reported = λ n. reportedWith n sh in
-    let on = is-open sh t2 (holds (c .before .before .before .before .before .before .before .usable .ensures .usable-is) (c .before .before .before .before .before .before .if1 .left)) ∙ passes (ltb 1 j) 2 t13 (le-ltb 1 j (c .before .before .before .before .before .if2 .left)) in
-    let l = ap (λ (r : Reckoning). r .lengths) (c .before .before .before .reckon .ensures) in
-    let off = ap not (ne-eqb (sumOf Lengths xs) (sh .length) (rw l at (c .if3 .taken))) in
-    ap answer (sym (on ∙ applies (not (eqb (sumOf Lengths xs) (sh .length))) 13 t14 off))
+    let d = c .before .before .before in
+    let on = past-2 sh j (holds (d .before .before .before .before .usable .ensures .usable-is) (d .before .before .before .if1 .left)) (d .before .before .if2 .left) in
+    let l = ap (λ (r : Reckoning). r .lengths) (d .reckon .ensures) in
+    let lengths = sumOf Lengths (standing sh) in
+    ap (λ (n : ℕ). reportedWith n sh) (sym (on ∙ applies (not (eqb lengths (sh .length))) 13 (from-14 sh j) (ap not (ne-eqb lengths (sh .length) (rw l at (c .if3 .taken))))))
 
 needs-mark-requires : tie.Need-needs-mark-requires
 needs-mark-requires c κs = search needs
@@ -80,16 +85,11 @@ returns-4 c =
     let s = c .before .before .before .before .before .before .before .before .before .before in
     let sh = s .args .self in
     let j = s .args .justified in
-    let xs = standing sh in
-    let t14 : List (Bool × ℕ) = (unjustified xs && eqb j 0, 14) ∷ [] in
-    let t13 : List (Bool × ℕ) = (not (eqb (sumOf Lengths xs) (sh .length)), 13) ∷ t14 in
-    let t2 : List (Bool × ℕ) = (ltb 1 j, 2) ∷ t13 in
-    let answer : ℕ → Reported = λ n. reportedWith n sh in
-    let on = is-open sh t2 (holds (c .before .before .before .before .before .before .before .before .before .usable .ensures .usable-is) (c .before .before .before .before .before .before .before .before .if1 .left)) ∙ passes (ltb 1 j) 2 t13 (le-ltb 1 j (c .before .before .before .before .before .before .before .if2 .left)) in
-    let l = ap (λ (r : Reckoning). r .lengths) (c .before .before .before .before .before .reckon .ensures) in
-    let full = passes (not (eqb (sumOf Lengths xs) (sh .length))) 13 t14 (ap not (eq-eqb (sumOf Lengths xs) (sh .length) (sym l ∙ c .before .before .if3 .left))) in
-    let u = ap (λ (r : Reckoning). r .unjustified && eqb j 0) (c .before .before .before .before .before .reckon .ensures) in
-    ap answer (sym (on ∙ full ∙ applies (unjustified xs && eqb j 0) 14 [] (sym u ∙ sym (c .before .needs-mark .ensures) ∙ c .if4 .taken)))
+    let d = c .before .before .before .before .before in
+    let l = ap (λ (r : Reckoning). r .lengths) (d .reckon .ensures) in
+    let on = past-13 sh j (holds (d .before .before .before .before .usable .ensures .usable-is) (d .before .before .before .if1 .left)) (d .before .before .if2 .left) (sym l ∙ c .before .before .if3 .left) in
+    let u = sym (ap (λ (r : Reckoning). r .unjustified && eqb j 0) (d .reckon .ensures)) ∙ sym (c .before .needs-mark .ensures) in
+    ap (λ (n : ℕ). reportedWith n sh) (sym (on ∙ applies (unjustified (standing sh) && eqb j 0) 14 [] (u ∙ c .if4 .taken)))
 
 returns-5 : tie.Need-returns-5
 unfolding reported
@@ -97,17 +97,12 @@ returns-5 c =
     let s = c .before .before .before .before .before .before .before .before .before .before in
     let sh = s .args .self in
     let j = s .args .justified in
-    let xs = standing sh in
-    let t14 : List (Bool × ℕ) = (unjustified xs && eqb j 0, 14) ∷ [] in
-    let t13 : List (Bool × ℕ) = (not (eqb (sumOf Lengths xs) (sh .length)), 13) ∷ t14 in
-    let t2 : List (Bool × ℕ) = (ltb 1 j, 2) ∷ t13 in
-    let answer : ℕ → Reported = λ n. reportedWith n sh in
-    let on = is-open sh t2 (holds (c .before .before .before .before .before .before .before .before .before .usable .ensures .usable-is) (c .before .before .before .before .before .before .before .before .if1 .left)) ∙ passes (ltb 1 j) 2 t13 (le-ltb 1 j (c .before .before .before .before .before .before .before .if2 .left)) in
-    let l = ap (λ (r : Reckoning). r .lengths) (c .before .before .before .before .before .reckon .ensures) in
-    let full = passes (not (eqb (sumOf Lengths xs) (sh .length))) 13 t14 (ap not (eq-eqb (sumOf Lengths xs) (sh .length) (sym l ∙ c .before .before .if3 .left))) in
-    let u = ap (λ (r : Reckoning). r .unjustified && eqb j 0) (c .before .before .before .before .before .reckon .ensures) in
-    let none = on ∙ full ∙ passes (unjustified xs && eqb j 0) 14 [] (sym u ∙ sym (c .before .needs-mark .ensures) ∙ c .if4 .left) in
-    ap (λ (r : Reckoning). record { number = 0; gross = r .gross; net = r .net; sheet = sh }) (c .before .before .before .before .before .reckon .ensures) ∙ ap answer (sym none)
+    let d = c .before .before .before .before .before in
+    let l = ap (λ (r : Reckoning). r .lengths) (d .reckon .ensures) in
+    let on = past-13 sh j (holds (d .before .before .before .before .usable .ensures .usable-is) (d .before .before .before .if1 .left)) (d .before .before .if2 .left) (sym l ∙ c .before .before .if3 .left) in
+    let u = sym (ap (λ (r : Reckoning). r .unjustified && eqb j 0) (d .reckon .ensures)) ∙ sym (c .before .needs-mark .ensures) in
+    let none = on ∙ passes (unjustified (standing sh) && eqb j 0) 14 [] (u ∙ c .if4 .left) in
+    ap (λ (r : Reckoning). record { number = 0; gross = r .gross; net = r .net; sheet = sh }) (d .reckon .ensures) ∙ ap (λ (n : ℕ). reportedWith n sh) (sym none)
 
 pub report-spec : {M : Type 1} → statement M
 report-spec =
