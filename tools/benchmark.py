@@ -35,8 +35,9 @@ def full_sheet() -> list[str]:
 ROUND = {
     'withdraw, enter a room': [withdraw(200), room(200, 9, standing=EXEMPT)],
     'withdraw, enter the U': [withdraw(1), UNDER_DECK],
-    'mark, all rooms looked at': [mark(2, EXEMPT), mark(2, PLAIN)],
-    'mark, seven above': [mark(200, PLAIN), mark(200, EXEMPT)],
+    'mark, all rooms looked at': [mark(2, EXEMPT)],
+    'mark, seven above': [mark(200, EXEMPT)],
+    'mark plain': [mark(200, PLAIN)],
     'mark, refused': [mark(3, EXEMPT)],
     'withdraw, refused': [withdraw(3)],
     'undo, redo': ['undo', 'redo'],
