@@ -99,14 +99,9 @@ impl Sheet {
                 sheet: self,
             };
         }
-        let length = self.length;
-        let measured = measure_offsets(
-            entry.kind,
-            Hundredths(length),
-            Hundredths(entry.length),
-            heights,
-            breadths,
-        );
+        let whole = Hundredths(self.length);
+        let own = Hundredths(entry.length);
+        let measured = measure_offsets(entry.kind, whole, own, heights, breadths);
         if measured.number != 0 {
             return Changed {
                 number: measured.number,
@@ -115,7 +110,7 @@ impl Sheet {
         }
         let x = entry.space(measured.tonnage);
         let spaces = self.spaces;
-        let number = entry_number(spaces, self.count, length, x);
+        let number = entry_number(spaces, self.count, self.length, x);
         if number != 0 {
             return Changed {
                 number,
