@@ -1,5 +1,7 @@
 -- Laws of the definitions in specs/, that the functions' proofs and the floors above cite.
+pub mod Cases
 pub mod Standing
 pub mod Row
 pub mod Found
 pub mod Enclosure
+pub mod Places

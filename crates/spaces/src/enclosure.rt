@@ -1,22 +1,23 @@
-// The chain upward ("Enclosure"): walked one enclosing space at a time, for levels and for the standings above.
+// The chain upward ("Enclosure"): walked one enclosing space at a time, for levels and for the standings above; and
+// followed by places, for the standings below.
 use crate::row::Found;
 use crate::row::find;
+use crate::row::place_of;
 use crate::row::used;
 use crate::space::ROOM;
 use crate::space::Space;
 ghost use mathlib.Core.Path.{_≡_};
-ghost use mathlib.Core.Bool.{not, _&&_, _||_};
-ghost use Prim.Native.Nat.{_≤_};
+ghost use mathlib.Core.Bool.{not, _&&_};
+ghost use Prim.Native.Nat.{_≤_, _<_};
 ghost use lib.ListN.{take};
 ghost use Rattle.spaces.specs.Space.{isPlain};
 ghost use Rattle.spaces.specs.Row.{foundAs};
-ghost use Rattle.spaces.specs.Enclosure.{enclosing as enclosingIn, upward, above, among, walked, pastOf, allPlain, below};
+ghost use Rattle.spaces.specs.Enclosure.{enclosing as enclosingIn, upward, walked, pastOf, allPlain, below, enclosingPlace, EnclosingPlaces, leadsTo};
 
-// What a walk upward met: how many spaces, whether all are plain, and whether one has the id sought.
+// What a walk upward met: how many spaces, and whether all are plain.
 pub struct Above {
     pub levels: usize,
     pub plain: bool,
-    pub met: bool,
 }
 
 // A space is at most at level 8.
@@ -32,40 +33,37 @@ pub(crate) fn enclosing(spaces: [Space; 200], count: usize, x: Space) -> Found
 }
 
 // From a space upward to level 1, with `left` levels left.
-pub(crate) fn walk(spaces: [Space; 200], count: usize, x: Space, sought: u16, left: usize) -> Above
+pub(crate) fn walk(spaces: [Space; 200], count: usize, x: Space, left: usize) -> Above
     requires { ⌜ left ≤ 8 ⌝ }
-    ensures { λ r. ⌜ r ≡ walked sought (upward left (take count spaces) x) ⌝ }
+    ensures { λ r. ⌜ r ≡ walked (upward left (take count spaces) x) ⌝ }
 {
     if left == 0 {
         return Above {
             levels: 0,
             plain: true,
-            met: false,
         };
     }
     let found = enclosing(spaces, count, x);
     match found {
         Found::At(z) => {
-            let further = walk(spaces, count, z, sought, left - 1);
-            past(z, sought, further)
+            let further = walk(spaces, count, z, left - 1);
+            past(z, further)
         }
         Found::Nothing => Above {
             levels: 0,
             plain: true,
-            met: false,
         },
     }
 }
 
 // A walk that goes past a space first.
-fn past(z: Space, sought: u16, further: Above) -> Above
+fn past(z: Space, further: Above) -> Above
     requires { ⌜ further .levels ≤ 8 ⌝ }
-    ensures { λ r. ⌜ r ≡ pastOf z sought further ⌝ }
+    ensures { λ r. ⌜ r ≡ pastOf z further ⌝ }
 {
     Above {
         levels: further.levels + 1,
         plain: both(z.standing == 0, further.plain),
-        met: either(z.id == sought, further.met),
     }
 }
 
@@ -75,21 +73,18 @@ fn both(a: bool, b: bool) -> bool
     if a { b } else { false }
 }
 
-fn either(a: bool, b: bool) -> bool
-    ensures { λ r. ⌜ r ≡ (a || b) ⌝ }
-{
-    if a { true } else { b }
-}
-
-// Whether all the spaces that the one with an id is above are plain.
+// Whether all the spaces that the one with an id is above are plain. The chains are followed in a row of places, which is
+// lent: the walk hands all the spaces on by value at each level, too dear for 200 of them.
 pub(crate) fn plain_below(spaces: [Space; 200], count: usize, id: u16) -> bool
     ensures { λ r. ⌜ r ≡ allPlain (below id (take count spaces)) ⌝ }
 {
+    let places = enclosing_places(spaces, count);
+    let to = place_of(spaces, count, id);
     let n = used(count);
     let mut i = 0;
     while i < n {
         let y = spaces[i];
-        if taken_under(spaces, count, y, id) {
+        if taken_under(y, &places, n, i, to) {
             return false;
         }
         i += 1;
@@ -97,12 +92,56 @@ pub(crate) fn plain_below(spaces: [Space; 200], count: usize, id: u16) -> bool
     true
 }
 
-// Whether a space isn't plain and the one with an id is above it.
-fn taken_under(spaces: [Space; 200], count: usize, y: Space, id: u16) -> bool
-    ensures { λ r. ⌜ r ≡ (not (isPlain y) && among id (above (take count spaces) y)) ⌝ }
+// The place of the enclosing space of each that stands.
+fn enclosing_places(spaces: [Space; 200], count: usize) -> [usize; 200]
+    ensures { λ r. ⌜ EnclosingPlaces (take count spaces) r ⌝ }
+{
+    let n = used(count);
+    let mut places = [0usize; 200];
+    let mut i = 0;
+    while i < n {
+        let x = spaces[i];
+        places[i] = enclosing_place(spaces, count, x);
+        i += 1;
+    }
+    places
+}
+
+// The place of the enclosing space, from 0; as many as stand where there is none.
+fn enclosing_place(spaces: [Space; 200], count: usize, x: Space) -> usize
+    ensures { λ r. ⌜ r ≡ enclosingPlace (take count spaces) x ⌝ }
+{
+    if x.kind == ROOM {
+        return place_of(spaces, count, x.within);
+    }
+    used(count)
+}
+
+// Whether a space isn't plain and the one at the place `to` is above it, which stands at `from`.
+fn taken_under(y: Space, places: &[usize; 200], n: usize, from: usize, to: usize) -> bool
+    requires { ⌜ (from < n) × (n ≤ 200) ⌝ }
+    ensures { λ r. ⌜ r ≡ (not (isPlain y) && leadsTo 8 n (now (places .entry)) from to) ⌝ }
 {
     if y.standing == 0 {
         return false;
     }
-    walk(spaces, count, y, id, LEVELS).met
+    leads_to(places, n, from, to, LEVELS)
+}
+
+// Whether the chain upward from one place leads to another, with `left` levels left and n spaces standing.
+fn leads_to(places: &[usize; 200], n: usize, from: usize, to: usize, left: usize) -> bool
+    requires { ⌜ (from < n) × (n ≤ 200) ⌝ }
+    ensures { λ r. ⌜ r ≡ leadsTo left n (now (places .entry)) from to ⌝ }
+{
+    if left == 0 {
+        return false;
+    }
+    let next = places[from];
+    if n <= next {
+        return false;
+    }
+    if next == to {
+        return true;
+    }
+    leads_to(places, n, next, to, left - 1)
 }

@@ -112,7 +112,7 @@ pub fn entry_number(spaces: [Space; 200], count: usize, tonnage_length: u32, x: 
     if misplaced(spaces, count, x) {
         return 6;
     }
-    let up = walk(spaces, count, x, 0, LEVELS);
+    let up = walk(spaces, count, x, LEVELS);
     if LEVELS < up.levels + 1 {
         return 7;
     }
@@ -155,7 +155,7 @@ fn marked_twice(spaces: [Space; 200], count: usize, z: Space, id: u16, standing:
     if standing == 0 {
         return false;
     }
-    let up = walk(spaces, count, z, 0, LEVELS);
+    let up = walk(spaces, count, z, LEVELS);
     if !up.plain {
         return true;
     }

@@ -10,9 +10,11 @@ use borrow.Author.Tests.{eqb-true, eq-eqb, ne-eqb}
 use lib.Dec.{eqb}
 use lib.ListN.{length, getD}
 use Rattle.spaces.specs.declared.space.Space.{Space}
-use Rattle.spaces.specs.Space.{isRoom}
-use Rattle.spaces.specs.Row.{find, isSome, only, sumBy}
-use Rattle.spaces_laws.proofs.Tests.{by-test, not-both, none-not-some, and-fails-of}
+use Rattle.spaces.specs.Space.{emptySpace, isRoom}
+use Rattle.spaces.specs.Row.{find, placeOf, isSome, only, sumBy}
+use Rattle.spaces.proofs.laws.Cases.{by-test, not-both, none-not-some}
+use Rattle.spaces.proofs.laws.Places.{placed}
+use Rattle.spaces_laws.proofs.Tests.{and-fails-of}
 
 abbrev pub _∈_ : Space → List Space → Type 0
 _∈_ x xs = List·Memᴰ x xs
@@ -52,11 +54,9 @@ find-behind id (x ∷ xs) ys e =
 
 -- what is found is one of the spaces, and has the id
 pub found-stands : (id : ℕ) (xs : List Space) {z : Space} → find id xs ≡ some z → (z ∈ xs) × (z .id ≡ id)
-found-stands id [] {z} e = none-not-some refl e
-found-stands id (x ∷ xs) {z} e =
-    by-test (eqb (x .id) id)
-    (λ t. let h : x ≡ z = cc in (List·Memᴰ·head (sym h), rw h at (eqb-true (x .id) id t)))
-    (λ f. let r = found-stands id xs {z = z} (rw f at e) in (List·Memᴰ·tail (r .0), r .1))
+found-stands id xs {z} e =
+    let p = placed id xs {z = z} e in
+    (subst (λ (y : Space). y ∈ xs) (p .there) (member-at xs (placeOf id xs) emptySpace (p .in-order)), p .with-id)
 
 -- where an id isn't found, no space has it
 pub unfound-absent : (id : ℕ) {xs : List Space} {z : Space} → find id xs ≡ none → z ∈ xs → z .id ≡ id → ⊥

@@ -17,7 +17,8 @@ use Rattle.spaces.specs.Row.{find, stands, amountOf, sumBy}
 use Rattle.spaces.specs.Enclosure.{enclosing, upward, above, allPlain, below}
 use Rattle.spaces.specs.Rules.{cannotTake, plainAbove, markedTwice, markNumber}
 use Rattle.spaces.specs.Valid.{ValidFrom, done, next, Valid}
-use Rattle.spaces_laws.proofs.Tests.{by-test, by-option, not-both, and-fails, and-fails-of, and-holds}
+use Rattle.spaces.proofs.laws.Cases.{by-test, by-option, not-both}
+use Rattle.spaces_laws.proofs.Tests.{and-fails, and-fails-of, and-holds}
 use Rattle.spaces_laws.proofs.Refusals.{none-applies, accepted-of-none}
 use Rattle.spaces_laws.proofs.Lists.{_∈_, unfound-absent, some-of}
 use Rattle.spaces_laws.proofs.Walk.{upward-some, upward-none, upward-stands, plain-of-all, all-plain-of, below-exactly}

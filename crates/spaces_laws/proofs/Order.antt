@@ -1,5 +1,5 @@
 -- A valid sheet by places: each space is accepted as an entry after those before it, so a room comes after its enclosing space. Stands
--- on Entry, Places.
+-- on Entry, Walk.
 use Prim.Native.Nat.{ℕ, zero, suc, _<_}
 use mathlib.Core.Path.{_≡_, sym, ap, _∙_}
 use mathlib.Core.Bool.{true}
@@ -10,14 +10,14 @@ use lib.ListN.{length, getD, take, drop, take-append-drop}
 use lib.Seq.{append-snoc, length-take-le, getD-take}
 use Rattle.spaces.specs.declared.space.Space.{Space}
 use Rattle.spaces.specs.Space.{emptySpace, isRoom}
-use Rattle.spaces.specs.Row.{find, placeOf, isSome, stands}
+use Rattle.spaces.specs.Row.{find, placeOf}
 use Rattle.spaces.specs.Enclosure.{enclosing}
 use Rattle.spaces.specs.Rules.{entryNumber}
 use Rattle.spaces.specs.Valid.{ValidFrom, done, next, Valid}
+use Rattle.spaces.proofs.laws.Places.{placed}
 use Rattle.spaces_laws.proofs.Lists.{find-before}
 use Rattle.spaces_laws.proofs.Walk.{enclosing-of-room}
 use Rattle.spaces_laws.proofs.Entry.{facts-of-entry}
-use Rattle.spaces_laws.proofs.Places.{place-in-order, found-at-place}
 
 entered-at-from : {L : ℕ} {pre xs : List Space} → ValidFrom L pre xs → (i : ℕ) → i < length xs
     → entryNumber L (pre ++ take i xs) (getD xs i emptySpace) ≡ 0
@@ -51,15 +51,15 @@ pub room-after-its-enclosing : {L : ℕ} {xs : List Space} → Valid L xs → (i
 room-after-its-enclosing {L} {xs} v i h r =
     let x = getD xs i emptySpace in
     let home = facts-of-entry L (take i xs) x (entered-at v i h) .enclosed r in
-    let there : stands (x .within) (take i xs) ≡ true = ap isSome (home .home-stands) in
+    let found = placed (x .within) (take i xs) {z = home .home} (home .home-stands) in
     let p = placeOf (x .within) (take i xs) in
-    let early : p < i = omega (arith, place-in-order (x .within) (take i xs) there, length-take-le i xs (omega arith)) in
+    let early : p < i = omega (arith, found .in-order, length-take-le i xs (omega arith)) in
     record {
       place = p;
       earlier = early;
       encloses =
           enclosing-of-room xs x r
           ∙ ap (find (x .within)) (sym (take-append-drop i xs))
-          ∙ find-before (x .within) (take i xs) (drop i xs) (found-at-place (x .within) (take i xs) there)
-          ∙ ap some (getD-take i xs p emptySpace early);
+          ∙ find-before (x .within) (take i xs) (drop i xs) {z = home .home} (home .home-stands)
+          ∙ ap some (sym (found .there) ∙ getD-take i xs p emptySpace early);
     }

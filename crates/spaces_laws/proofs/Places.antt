@@ -11,30 +11,15 @@ use lib.Dec.{eqb}
 use lib.ListN.{length, getD, take, drop, set}
 use Rattle.spaces.specs.declared.space.Space.{Space}
 use Rattle.spaces.specs.Space.{emptySpace}
-use Rattle.spaces.specs.Row.{find, placeOf, stands}
+use Rattle.spaces.specs.Row.{find, placeOf}
 use Rattle.spaces.specs.Rules.{withdrawNumber, markNumber}
 use Rattle.spaces.specs.Valid.{ValidFrom, done, next, Valid}
-use Rattle.spaces_laws.proofs.Tests.{by-test, not-both, none-not-some}
+use Rattle.spaces.proofs.laws.Cases.{by-test, none-not-some}
 use Rattle.spaces_laws.proofs.Lists.{member-at, find-here, find-further, find-before, find-behind, unfound-absent}
 use Rattle.spaces_laws.proofs.Entry.{facts-of-entry}
 use Rattle.spaces_laws.proofs.Changes.{restanding, without, marked}
 use Rattle.spaces_laws.proofs.Withdraw.{withdrawal-by-id-keeps-valid}
 use Rattle.spaces_laws.proofs.Mark.{mark-by-id-keeps-valid}
-
--- ---- a standing id
-
--- it has a place in the order, and there the space that it finds
-pub place-in-order : (id : ℕ) (xs : List Space) → stands id xs ≡ true → placeOf id xs < length xs
-place-in-order id [] e = not-both e refl
-place-in-order id (x ∷ xs) e =
-    by-test (eqb (x .id) id)
-    (λ t. rw t (omega arith))
-    (λ f. rw f (omega (arith, place-in-order id xs (rw f at e))))
-
-pub found-at-place : (id : ℕ) (xs : List Space) → stands id xs ≡ true → find id xs ≡ some (getD xs (placeOf id xs) emptySpace)
-found-at-place id [] e = not-both e refl
-found-at-place id (x ∷ xs) e =
-    by-test (eqb (x .id) id) (λ t. rw t) (λ f. rw f (found-at-place id xs (rw f at e)))
 
 -- ---- ids differ
 

@@ -5,7 +5,7 @@ use mathlib.Core.Bool.{Bool, false}
 use mathlib.Core.List.{List, [], _∷_}
 use native.Mathlib.Omega.{arith}
 use Rattle.measure.specs.Refusals.{firstOf}
-use Rattle.spaces_laws.proofs.Tests.{by-test}
+use Rattle.spaces.proofs.laws.Cases.{by-test}
 
 abbrev pub NoneApplies : List (Bool × ℕ) → Type 0
 NoneApplies [] = Unit {0}

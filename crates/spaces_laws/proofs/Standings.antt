@@ -8,7 +8,7 @@ use lib.Dec.{eqb}
 use Rattle.spaces.specs.declared.space.Space.{Space}
 use Rattle.spaces.specs.Space.{isHull, isHatchway, mayTake}
 use Rattle.spaces.specs.Row.{only}
-use Rattle.spaces_laws.proofs.Tests.{by-test, not-both}
+use Rattle.spaces.proofs.laws.Cases.{by-test, not-both}
 use Rattle.spaces_laws.proofs.Lists.{only-at-most}
 
 pub data Kinded (kind standing : ℕ) : Type 0 where

@@ -14,7 +14,8 @@ use Rattle.spaces.specs.Row.{only, amountOf, sumBy, sumOf}
 use Rattle.spaces.specs.Enclosure.{above, allPlain, below}
 use Rattle.spaces.specs.Gross.{exempt}
 use Rattle.spaces.specs.Valid.{Valid}
-use Rattle.spaces_laws.proofs.Tests.{by-test, not-both, and-holds, and-holds-of, and-fails-of}
+use Rattle.spaces.proofs.laws.Cases.{by-test, not-both}
+use Rattle.spaces_laws.proofs.Tests.{and-holds, and-holds-of, and-fails-of}
 use Rattle.spaces_laws.proofs.Lists.{_∈_, found-stands, only-at-most, sum-at-most, sum-of-sums, one-within-sum, sum-of-none, sums-exchange, inside-adds}
 use Rattle.spaces_laws.proofs.Walk.{enclosing-of-room, Above, above-exactly, above-of-room, upward-stands, plain-of-all, all-plain-of, below-exactly}
 use Rattle.spaces_laws.proofs.Valid.{Sound, same-by-id, valid-is-sound}

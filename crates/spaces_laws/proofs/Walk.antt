@@ -14,7 +14,8 @@ use Rattle.spaces.specs.declared.space.Space.{Space}
 use Rattle.spaces.specs.Space.{isRoom, isPlain}
 use Rattle.spaces.specs.Row.{find}
 use Rattle.spaces.specs.Enclosure.{enclosing, upward, above, level, allPlain, among, belowOf, below}
-use Rattle.spaces_laws.proofs.Tests.{by-test, by-option, not-both, none-not-some, and-holds, and-holds-of}
+use Rattle.spaces.proofs.laws.Cases.{by-test, by-option, not-both, none-not-some}
+use Rattle.spaces_laws.proofs.Tests.{and-holds, and-holds-of}
 use Rattle.spaces_laws.proofs.Lists.{_∈_, find-before, found-stands}
 
 -- "Only a room has an enclosing space"

@@ -17,7 +17,7 @@ use Rattle.spaces.specs.Row.{find, stands, amountOf, sumBy, sumOf}
 use Rattle.spaces.specs.Enclosure.{above, enclosing, upward}
 use Rattle.spaces.specs.Rules.{enclosesRoom, withdrawNumber}
 use Rattle.spaces.specs.Valid.{ValidFrom, done, next, Valid}
-use Rattle.spaces_laws.proofs.Tests.{by-test, by-option}
+use Rattle.spaces.proofs.laws.Cases.{by-test, by-option}
 use Rattle.spaces_laws.proofs.Refusals.{none-applies, accepted-of-none}
 use Rattle.spaces_laws.proofs.Lists.{_∈_, all-snoc, find-further, some-of, one-within-sum, sum-of-none, inside-adds, outside-adds-none}
 use Rattle.spaces_laws.proofs.Walk.{enclosing-of-other, enclosing-of-room, enclosing-stands, upward-some, upward-none}

@@ -3,14 +3,13 @@ use mathlib.Core.Path.{_≡_, refl, sym, ap, _∙_}
 use mathlib.Core.Bool.{Bool, true, false, not, cond, _&&_}
 use mathlib.Core.List.{List, [], _∷_}
 use mathlib.Core.Option.{Option, none, some}
-use Prim.Native.Nat.{ℕ, zero, suc, _+_, _-_, _≤_, _<_}
+use Prim.Native.Nat.{ℕ, zero, suc, _-_, _≤_, _<_}
 use native.Mathlib.Numerals.{add-one}
 use native.Mathlib.Omega.{arith}
 use lib.ListN.{length}
 use Rattle.spaces.specs.Space.{isPlain}
 use Rattle.spaces.specs.Enclosure.{enclosing, onward, upward, above, among, allPlain, belowOf, walked, pastOf}
 use Rattle.spaces.specs.declared.space.Space.{Space}
-use Rattle.spaces.specs.declared.enclosure.Above.{Above}
 
 pub upward-some : (left : ℕ) (xs : List Space) (x : Space) {z : Space} → 0 < left → enclosing xs x ≡ some z → upward left xs x ≡ z ∷ upward (left - 1) xs z
 upward-some zero xs x h e = absurd (omega arith)
@@ -30,9 +29,8 @@ pub upward-short : (left : ℕ) (xs : List Space) (x : Space) → length (upward
 upward-short zero xs x = omega arith
 upward-short (suc left) xs x = onward-short (enclosing xs x) (λ z. upward left xs z) left (λ z. upward-short left xs z)
 
-pub walked-past : (z : Space) (sought : ℕ) (zs : List Space) → walked sought (z ∷ zs) ≡ pastOf z sought (walked sought zs)
-walked-past z sought zs =
-    ap (λ (n : ℕ). record { levels = n; plain = isPlain z && allPlain zs; met = among sought (z ∷ zs) }) (sym (add-one (length zs)))
+pub walked-past : (z : Space) (zs : List Space) → walked (z ∷ zs) ≡ pastOf z (walked zs)
+walked-past z zs = ap (λ (n : ℕ). record { levels = n; plain = isPlain z && allPlain zs }) (sym (add-one (length zs)))
 
 -- a space that isn't plain and is below stops the plain ones below; any other leaves them as they are
 one-below : (below plain rest : Bool) → cond below (plain && rest) rest ≡ (not (not plain && below) && rest)

@@ -18,11 +18,14 @@ module _ (spaces : List Space) (count : ℕ) (full : length spaces ≡ 200) wher
   pub used-is : used count ≡ length (take count spaces)
   used-is = sym (length-take count spaces ∙ ap (min count) full)
 
+  pub standing-at : (i : ℕ) → i < used count → getD (take count spaces) i emptySpace ≡ getD spaces i emptySpace
+  standing-at i h = getD-take count spaces i emptySpace (lt-of-lt-of-le h (min-le-left count 200))
+
   pub standing-step : (i : ℕ) → i < used count → drop i (take count spaces) ≡ getD spaces i emptySpace ∷ drop (i + 1) (take count spaces)
   standing-step i h =
       let xs = take count spaces in
       drop-cons xs i emptySpace (omega (arith, used-is))
-      ∙ ap (λ (x : Space). x ∷ drop (suc i) xs) (getD-take count spaces i emptySpace (lt-of-lt-of-le h (min-le-left count 200)))
+      ∙ ap (λ (x : Space). x ∷ drop (suc i) xs) (standing-at i h)
       ∙ ap (λ (k : ℕ). getD spaces i emptySpace ∷ drop k xs) (sym (add-one i))
 
   pub standing-end : (i : ℕ) → used count ≤ i → drop i (take count spaces) ≡ []

@@ -1,7 +1,5 @@
 -- `enclosure::walk` meets its contract: the levels left fall with each step, and a step is the definition's first one.
-use mathlib.Core.Path.{_≡_, refl, sym, ap, _∙_}
-use mathlib.Core.List.{_∷_}
-use Prim.Native.Nat.{_-_, _≤_}
+use mathlib.Core.Path.{sym, ap, _∙_}
 use native.Mathlib.Omega.{arith}
 use lib.ListN.{take}
 use Rattle.spaces.specs.Enclosure.{enclosing, upward, walked, pastOf}
@@ -9,7 +7,7 @@ use Rattle.spaces.specs.declared.enclosure.Above.{Above}
 use Rattle.spaces.proofs.laws.Found.{found-at, found-nothing}
 use Rattle.spaces.proofs.laws.Enclosure.{upward-some, upward-none, upward-short, walked-past}
 use borrow.Author.Needs.{needs}
-use Prim.Native.Nat.{ℕ, _<_}
+use Prim.Native.Nat.{ℕ, _-_, _<_}
 use borrow.Fn.Kinds.{In}
 use borrow.Fn.PlainCycle.{Measures, is, falls, and}
 use Rattle.spaces.proofs.enclosure.walk.Reads as walk
@@ -21,7 +19,7 @@ use Rattle.spaces.proofs.enclosure.+walk.{statement}
 use Rattle.spaces.proofs.enclosure.+walk.Tie.{close}
 
 abbrev μ-walk : Measures 0 walk-kinds.ps ℕ
-μ-walk κs a = a .1 .1 .1 .1 .0
+μ-walk κs a = a .1 .1 .1 .0
 
 abbrev walk-at : ℕ → In 0 walk-kinds.ps
 walk-at t = and 0 walk-kinds.ps (is 0 walk-kinds.ps μ-walk t) walk.Pre
@@ -118,8 +116,8 @@ walk-returns-2 t c =
     let z = w .before .before .found .given .0 .0 in
     let e = found-at (enclosing xs (s .args .x)) (w .before .before .before .before .enclosing .ensures) (w .before .before .found .given .1) in
     c .past .ensures
-    ∙ ap (pastOf z (s .args .sought)) (w .walk .ensures)
-    ∙ sym (ap (walked (s .args .sought)) (upward-some (s .args .left) xs (s .args .x) (omega arith) e) ∙ walked-past z (s .args .sought) (upward (s .args .left - 1) xs z))
+    ∙ ap (pastOf z) (w .walk .ensures)
+    ∙ sym (ap walked (upward-some (s .args .left) xs (s .args .x) (omega arith) e) ∙ walked-past z (upward (s .args .left - 1) xs z))
 
 walk-returns-3 : (t : ℕ) → walk-lts.Need-returns-3 (
   enclosing-reads.Asked,
@@ -133,7 +131,7 @@ walk-returns-3 t c =
     let s = c .before .before .before .before in
     let xs = take (s .args .count) (s .args .spaces) in
     let e = found-nothing (enclosing xs (s .args .x)) (c .before .before .enclosing .ensures) (c .enum-told .given .1) in
-    sym (ap (walked (s .args .sought)) (upward-none (s .args .left) xs (s .args .x) e))
+    sym (ap walked (upward-none (s .args .left) xs (s .args .x) e))
 
 pub +walk-spec : {M : Type 1} → statement M
 +walk-spec = close μ-walk λ t. walk-lts.spec (

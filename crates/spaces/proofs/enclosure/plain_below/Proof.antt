@@ -1,25 +1,32 @@
 -- `enclosure::plain_below` meets its contract. The loop's invariant: those left are plain below where all are.
-use Prim.Native.Nat.{_≤_, _+_, _-_}
-use mathlib.Core.Path.{_≡_, refl, sym, ap, _∙_}
+use Prim.Native.Nat.{ℕ, _≤_, _+_, _-_}
+use mathlib.Core.Path.{_≡_, refl, sym, ap, ap₂, _∙_}
 use mathlib.Core.Bool.{Bool, not, _&&_}
 use mathlib.Core.List.{List}
 use lib.ListN.{length, take, drop, getD}
-use Rattle.spaces.specs.Space.{emptySpace}
-use Rattle.spaces.specs.Enclosure.{allPlain, belowOf, below}
+use Rattle.spaces.specs.Space.{emptySpace, isPlain}
+use Rattle.spaces.specs.Enclosure.{allPlain, belowOf, below, leadsTo}
 use Rattle.spaces.specs.declared.space.Space.{Space}
 use Rattle.spaces.proofs.laws.Row.{standing-step, standing-end}
 use Rattle.spaces.proofs.laws.Enclosure.{below-step}
+use Rattle.spaces.proofs.laws.Places.{leads-above-standing}
 use borrow.Author.Needs.{needs}
 use native.Mathlib.Omega.{arith}
 use Rattle.spaces.proofs.enclosure.plain_below.Statement.{statement}
 use Rattle.spaces.proofs.enclosure.plain_below.Tie as tie
 
 abbrev Inv-loop : tie.InvT-loop
-Inv-loop count id spaces n i₀ i =
+Inv-loop count id spaces places to n i₀ i =
     (i ≤ n) × (allPlain (belowOf id (take count spaces) (drop i (take count spaces))) ≡ allPlain (below id (take count spaces)))
 
 abbrev μ-loop : tie.MeasureT-loop
-μ-loop count id spaces n i₀ i = n - i
+μ-loop count id spaces places to n i₀ i = n - i
+
+enclosing-places-requires : tie.Need-enclosing-places-requires Inv-loop μ-loop
+enclosing-places-requires c κs = search needs
+
+place-of-requires : tie.Need-place-of-requires Inv-loop μ-loop
+place-of-requires c κs = search needs
 
 used-requires : tie.Need-used-requires Inv-loop μ-loop
 used-requires c κs = search needs
@@ -34,19 +41,28 @@ array-copy-out-y : tie.Need-array-copy-out-y Inv-loop μ-loop
 array-copy-out-y c = omega arith
 
 taken-under-requires : tie.Need-taken-under-requires Inv-loop μ-loop
-taken-under-requires c κs = search needs
+taken-under-requires c κs = omega arith
 
-returns : tie.Need-returns Inv-loop μ-loop
-returns c =
+-- the test of a space, as the definition has it
+step : (c : tie.After-taken-under Inv-loop μ-loop) → (let l = c .before .before .before .before in let s = l .before .before .before .before in let xs = take (s .args .count) (s .args .t1) in allPlain (below (s .args .id) xs) ≡ (not (c .taken-under .result) && allPlain (belowOf (s .args .id) xs (drop (l .loop .i + 1) xs))))
+step c =
     let l = c .before .before .before .before in
-    let s = l .before .before in
+    let u = l .before in
+    let s = u .before .before .before in
     let xs = take (s .args .count) (s .args .t1) in
     let full : length (s .args .t1) ≡ 200 = search needs in
     let y = getD (s .args .t1) (l .loop .i) emptySpace in
     let rest = drop (l .loop .i + 1) xs in
-    let st = ap (λ (ys : List Space). allPlain (belowOf (s .args .id) xs ys)) (standing-step (s .args .t1) (s .args .count) full (l .loop .i) (omega arith)) ∙ below-step (s .args .id) xs y rest in
-    let e = ap (λ (t : Bool). not t && allPlain (belowOf (s .args .id) xs rest)) (sym (c .before .taken-under .ensures) ∙ c .if1 .taken) in
-    sym (sym (l .loop .inv .1) ∙ st ∙ e)
+    let places = u .before .before .enclosing-places in
+    let leads = ap₂ (λ (n to : ℕ). leadsTo 8 n (places .result) (l .loop .i) to) (u .used .ensures) (u .before .place-of .ensures) ∙ leads-above-standing (s .args .t1) (s .args .count) full (places .result) (places .ensures) (s .args .id) (l .loop .i) (omega arith) in
+    let taken = c .taken-under .ensures ∙ ap (λ (b : Bool). not (isPlain y) && b) leads in
+    sym (l .loop .inv .1)
+    ∙ ap (λ (ys : List Space). allPlain (belowOf (s .args .id) xs ys)) (standing-step (s .args .t1) (s .args .count) full (l .loop .i) (omega arith))
+    ∙ below-step (s .args .id) xs y rest
+    ∙ ap (λ (t : Bool). not t && allPlain (belowOf (s .args .id) xs rest)) (sym taken)
+
+returns : tie.Need-returns Inv-loop μ-loop
+returns c = sym (step (c .before) ∙ simp (c .if1 .taken))
 
 add-i : tie.Need-add-i Inv-loop μ-loop
 add-i c = omega arith
@@ -55,21 +71,12 @@ loop-less : tie.Need-loop-less Inv-loop μ-loop
 loop-less c = omega arith
 
 loop-again : tie.Need-loop-again Inv-loop μ-loop
-loop-again c =
-    let l = c .before .before .before .before in
-    let s = l .before .before in
-    let xs = take (s .args .count) (s .args .t1) in
-    let full : length (s .args .t1) ≡ 200 = search needs in
-    let y = getD (s .args .t1) (l .loop .i) emptySpace in
-    let rest = drop (l .loop .i + 1) xs in
-    let st = ap (λ (ys : List Space). allPlain (belowOf (s .args .id) xs ys)) (standing-step (s .args .t1) (s .args .count) full (l .loop .i) (omega arith)) ∙ below-step (s .args .id) xs y rest in
-    let e = ap (λ (t : Bool). not t && allPlain (belowOf (s .args .id) xs rest)) (sym (c .before .taken-under .ensures) ∙ c .if1 .left) in
-    (omega arith, sym (st ∙ e) ∙ l .loop .inv .1)
+loop-again c = (omega arith, sym (step (c .before) ∙ simp (c .if1 .left)))
 
 returns-2 : tie.Need-returns-2 Inv-loop μ-loop
 returns-2 c =
     let l = c .before in
-    let s = l .before .before in
+    let s = l .before .before .before .before in
     let full : length (s .args .t1) ≡ 200 = search needs in
     sym (ap (λ (ys : List Space). allPlain (belowOf (s .args .id) (take (s .args .count) (s .args .t1)) ys)) (standing-end (s .args .t1) (s .args .count) full (l .loop .i) (omega arith))) ∙ l .loop .inv .1
 
@@ -79,6 +86,8 @@ plain-below-spec =
     (tie.spec
     Inv-loop
     μ-loop
+    enclosing-places-requires
+    place-of-requires
     used-requires
     loop-holds
     mul-y
