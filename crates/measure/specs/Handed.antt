@@ -1,7 +1,7 @@
 -- What the functions inside the crate ask of their callers. No promise of a public function cites anything here.
 use Prim.Native.Nat.{ℕ, _+_, _*_, _≤_, _<_}
 use mathlib.Core.Path.{_≡_}
-use mathlib.Core.Bool.{Bool, true}
+use mathlib.Core.Bool.{true}
 use mathlib.Core.List.{List, [], _∷_}
 use lib.ListN.{length}
 use Rattle.measure.specs.Parts.{EvenParts}

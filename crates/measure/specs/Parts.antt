@@ -1,7 +1,7 @@
 -- How many parts a length or a depth is divided into ("Parts of a length"; "U"). Lengths and depths are in hundredths of a foot.
 use Prim.Native.Nat.{ℕ, zero, suc, _+_, _*_, _≤_}
 use mathlib.Core.Path.{_≡_}
-use mathlib.Core.Bool.{Bool, true, false, cond}
+use mathlib.Core.Bool.{cond}
 use lib.Dec.{leb, ltb, eqb}
 use Rattle.measure.specs.Rounding.{apart}
 use Rattle.measure.specs.declared.units.Hundredths.{Hundredths}

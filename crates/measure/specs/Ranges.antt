@@ -1,7 +1,7 @@
 -- The ranges of measures ("Ranges").
 use Prim.Native.Nat.{ℕ}
 use mathlib.Core.List.{List, [], _∷_}
-use mathlib.Core.Bool.{Bool, true, false, _&&_}
+use mathlib.Core.Bool.{Bool, true, _&&_}
 use lib.Dec.{leb}
 use Rattle.measure.specs.declared.ranges.Range.{Range}
 use Rattle.measure.specs.declared.kinds.Kind.{Kind}

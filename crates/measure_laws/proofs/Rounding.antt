@@ -4,7 +4,7 @@ use mathlib.Core.Logic.{⊎-elim}
 use Prim.Native.Nat.{ℕ, _+_, _*_, _/_, _≤_, _<_}
 use native.Mathlib.Nat.{div-mul-le-self, lt-div-mul-add, div-eq-of-lt-le, eq-or-lt-of-le, mul-comm, mul-left-comm, add-mul}
 use native.Mathlib.Omega.{arith}
-use Rattle.measure.specs.Rounding.{nearest, apart, Nearest}
+use Rattle.measure.specs.Rounding.{nearest, Nearest}
 
 -- r (2 b) in terms of the product b r
 doubled : (b r : ℕ) → r * (2 * b) ≡ 2 * (b * r)

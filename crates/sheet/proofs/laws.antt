@@ -4,3 +4,4 @@ pub mod Changes
 pub mod Sheet
 pub mod Resume
 pub mod Calls
+pub mod Report

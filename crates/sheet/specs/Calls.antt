@@ -1,7 +1,7 @@
 -- What each call on a sheet answers.
 use Prim.Native.Nat.{ℕ, _+_, _-_}
-use mathlib.Core.Bool.{Bool, true, false, cond, not, _&&_}
-use mathlib.Core.List.{List, [], _∷_, _++_}
+use mathlib.Core.Bool.{true, false, cond, not, _&&_}
+use mathlib.Core.List.{List, [], _∷_}
 use lib.Dec.{eqb, ltb}
 use lib.ListN.{getD}
 use Rattle.measure.specs.Ranges.{within, tonnageLengths}
@@ -18,7 +18,6 @@ use Rattle.sheet.specs.Sheet.{standing, usable, noChange, blank}
 use Rattle.sheet.specs.Changes.{made, takenBack, withChanges, noted}
 use Rattle.sheet.specs.declared.changes.Change.{Change}
 use Rattle.sheet.specs.declared.changes.Change.the-variants.{Entered, Withdrawn, Marked}
-use Rattle.sheet.specs.declared.changes.OpenChange.{OpenChange}
 use Rattle.sheet.specs.declared.sheet.Sheet.{Sheet}
 use Rattle.sheet.specs.declared.calls.Entry.{Entry}
 use Rattle.sheet.specs.declared.calls.Changed.{Changed}

@@ -1,6 +1,6 @@
 -- Changes: what each makes of the standing spaces, and what taking it back makes of them; and the list of open changes.
 use Prim.Native.Nat.{ℕ, suc, _-_}
-use mathlib.Core.Bool.{Bool, cond}
+use mathlib.Core.Bool.{cond}
 use mathlib.Core.List.{List, [], _∷_, _++_}
 use lib.Dec.{leb}
 use lib.ListN.{length, take, drop, getD, set}

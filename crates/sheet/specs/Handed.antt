@@ -1,6 +1,6 @@
 -- What the functions inside the crate ask of a sheet, and what `usable` tells beside its answer. No promise of a public function
 -- cites anything here.
-use Prim.Native.Nat.{ℕ, _≤_}
+use Prim.Native.Nat.{_≤_}
 use mathlib.Core.Path.{_≡_}
 use mathlib.Core.Bool.{Bool}
 use lib.ListN.{length}

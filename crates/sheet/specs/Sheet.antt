@@ -1,9 +1,9 @@
 -- A sheet: "It holds 200 places for spaces, kept in order of entry", and its open changes.
 use Prim.Native.Nat.{ℕ, _-_}
-use mathlib.Core.Bool.{Bool, true, false, cond, _&&_}
-use mathlib.Core.List.{List, [], _++_}
+use mathlib.Core.Bool.{Bool, cond, _&&_}
+use mathlib.Core.List.{List}
 use lib.Dec.{leb, ltb}
-use lib.ListN.{length, take, drop, getD, replicate}
+use lib.ListN.{length, take, getD, replicate}
 use Rattle.spaces.specs.Space.{emptySpace}
 use Rattle.spaces.specs.declared.space.Space.{Space}
 use Rattle.sheet.specs.declared.changes.OpenChange.{OpenChange}
@@ -35,7 +35,7 @@ blank opened length =
       redoable = 0;
     }
 
--- what a sheet hands out: its tonnage length, how many spaces stand, and the one at a place
+-- what a sheet hands out: its tonnage length, how many spaces stand, the one at a place, and all the places
 unfoldable pub lengthOf : Sheet → ℕ
 lengthOf s = cond (usable s) (s .length) 0
 
@@ -44,3 +44,6 @@ standingCount s = cond (usable s) (s .count) 0
 
 unfoldable pub spaceAt : Sheet → ℕ → Space
 spaceAt s place = cond (ltb place (standingCount s)) (getD (s .spaces) place emptySpace) emptySpace
+
+unfoldable pub placesOf : Sheet → List Space
+placesOf s = cond (usable s) (s .spaces) (replicate 200 emptySpace)

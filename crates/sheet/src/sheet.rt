@@ -6,7 +6,8 @@ use crate::row::places_of;
 use spaces::space::Space;
 use spaces::space::empty;
 ghost use mathlib.Core.Path.{_≡_};
-ghost use Rattle.sheet.specs.Sheet.{blank as blankOf, usable as usableOf, standingCount, spaceAt, lengthOf};
+ghost use mathlib.Core.Bool.{false};
+ghost use Rattle.sheet.specs.Sheet.{blank as blankOf, usable as usableOf, standingCount, spaceAt, placesOf, lengthOf};
 ghost use Rattle.sheet.specs.Handed.{Judged};
 
 pub struct Sheet {
@@ -63,6 +64,13 @@ impl Sheet {
         self.redoable <= most - self.undoable
     }
 
+    // A sheet not open.
+    pub fn closed() -> Sheet
+        ensures { λ r. ⌜ r ≡ blankOf false 0 ⌝ }
+    {
+        Sheet::blank(false, 0)
+    }
+
     // The tonnage length; 0 where the sheet isn't open.
     pub fn tonnage_length(self) -> u32
         ensures { λ r. ⌜ r ≡ lengthOf self ⌝ }
@@ -92,6 +100,17 @@ impl Sheet {
             return spaces[place];
         }
         empty()
+    }
+
+    // The 200 places, of which the first `standing_count` stand; empty records where the sheet isn't open.
+    pub fn places(self) -> [Space; 200]
+        ensures { λ r. ⌜ r ≡ placesOf self ⌝ }
+    {
+        if self.usable() {
+            return self.spaces;
+        }
+        let none = empty();
+        [none; 200]
     }
 
     // Whether the sheet is open.

@@ -7,7 +7,6 @@ use measure::allowances::hatchway_excess;
 ghost use mathlib.Core.Path.{_≡_};
 ghost use Prim.Native.Nat.{_-_, _*_, _≤_, _^_};
 ghost use lib.ListN.{take};
-ghost use Rattle.measure.specs.Allowances.{hatchwayExcess};
 ghost use Rattle.spaces.specs.Gross.{grossOver, reckoned};
 
 // What a report works out: the lengths of all U, gross, net, and whether water ballast needs the mark 'justified'.

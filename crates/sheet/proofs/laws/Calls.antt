@@ -4,7 +4,7 @@ use mathlib.Core.Bool.{Bool, true, false, cond, not}
 use mathlib.Core.List.{List, _∷_}
 use Prim.Native.Nat.{ℕ}
 use borrow.Author.Tests.{ne-eqb}
-use lib.Dec.{eqb, leb}
+use lib.Dec.{leb}
 use lib.ListN.{length}
 use Rattle.measure.specs.Refusals.{firstOf}
 use Rattle.spaces.specs.declared.space.Space.{Space}
@@ -22,6 +22,11 @@ applies b n tests e = ap (λ (t : Bool). cond t n (firstOf tests)) e
 
 pub passes : (b : Bool) (n : ℕ) (tests : List (Bool × ℕ)) → b ≡ false → firstOf ((b, n) ∷ tests) ≡ firstOf tests
 passes b n tests e = ap (λ (t : Bool). cond t n (firstOf tests)) e
+
+-- where no number is given, the first test didn't apply, and the others give none
+pub passed : (b : Bool) (n : ℕ) (tests : List (Bool × ℕ)) → firstOf ((b, n) ∷ tests) ≡ 0 → (n ≡ 0 → ⊥) → (b ≡ false) × (firstOf tests ≡ 0)
+passed true n tests e h = absurd (h e)
+passed false n tests e h = (refl, e)
 
 -- 1 of a sheet that isn't usable, and else what the other tests give
 pub not-open : (s : Sheet) (tests : List (Bool × ℕ)) → usable s ≡ false → firstOf ((not (usable s), 1) ∷ tests) ≡ 1

@@ -1,18 +1,16 @@
 -- Records judged one after another: one passed, one refused, and the end.
-use mathlib.Core.Path.{_≡_, refl, sym, ap, _∙_}
-use mathlib.Core.Bool.{Bool, true, false, cond}
+use mathlib.Core.Path.{_≡_, sym, ap, _∙_}
+use mathlib.Core.Bool.{Bool, cond}
 use mathlib.Core.List.{List, [], _∷_, _++_}
 use Prim.Native.Nat.{ℕ, suc, _+_, _≤_, _<_}
 use native.Mathlib.Numerals.{add-one}
 use native.Mathlib.Omega.{arith}
 use borrow.Author.Tests.{eq-eqb, ne-eqb}
-use lib.Dec.{eqb}
 use lib.ListN.{length, take, drop, getD, drop-of-length-le}
 use lib.Seq.{length-take-le, drop-cons, take-suc, getD-take}
 use Rattle.spaces.specs.Space.{emptySpace}
 use Rattle.spaces.specs.declared.space.Space.{Space}
 use Rattle.sheet.specs.Resume.{recordNumber, firstRefused}
-use Rattle.sheet.specs.declared.resume.RefusedRecord.{RefusedRecord}
 
 module _ (L : ℕ) (records : List Space) (n i : ℕ) (room : n ≤ length records) where
   step : i < n → drop i (take n records) ≡ getD records i emptySpace ∷ drop (i + 1) (take n records)

@@ -1,7 +1,7 @@
 -- What a usable sheet's counts are.
-use mathlib.Core.Path.{_≡_, refl, sym, ap, _∙_}
+use mathlib.Core.Path.{_≡_, refl}
 use mathlib.Core.Bool.{Bool, true, false, cond, _&&_}
-use Prim.Native.Nat.{ℕ, _-_, _≤_, zero-le}
+use Prim.Native.Nat.{_-_, _≤_, zero-le}
 use borrow.Author.Tests.{leb-true}
 use lib.Dec.{leb}
 use Rattle.measure.proofs.laws.Tests.{and-left, and-right}

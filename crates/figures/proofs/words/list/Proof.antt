@@ -1,7 +1,7 @@
 -- `words::list` meets its contract: no number is laid past the list's end.
 use Prim.Native.Nat.{_≤_, _-_}
 use mathlib.Core.Path.{_≡_}
-use lib.ListN.{length, length-set}
+use lib.ListN.{length}
 use borrow.Author.Needs.{needs}
 use Rattle.figures.proofs.words.list.Statement.{statement}
 use Rattle.figures.proofs.words.list.Tie as tie

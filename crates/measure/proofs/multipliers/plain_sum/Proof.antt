@@ -1,5 +1,5 @@
 -- `multipliers::plain_sum` meets its contract. The loop's invariant: the sum so far and what is left to sum are the whole.
-use Prim.Native.Nat.{ℕ, _≤_, _+_, _*_, _-_, _^_}
+use Prim.Native.Nat.{_≤_, _+_, _*_, _-_, _^_}
 use mathlib.Core.Path.{_≡_, ap}
 use native.Mathlib.Nat.{zero-add}
 use lib.ListN.{length, drop, drop-of-length-le}

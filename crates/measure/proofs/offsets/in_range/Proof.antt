@@ -1,7 +1,5 @@
 -- `offsets::in_range` meets its contract: each test is the definition's.
 use mathlib.Core.Path.{_≡_, ap, _∙_}
-use mathlib.Core.Bool.{true}
-use Prim.Native.Nat.{ℕ}
 use Rattle.measure.specs.Ranges.{allWithin, heights}
 use Rattle.measure.specs.Offsets.{inRange}
 use Rattle.measure.specs.declared.ranges.Range.{Range}

@@ -1,5 +1,4 @@
 -- `offsets::measure_offsets` meets its contract: the tests are those of 2 and 3, in the table's order.
-use mathlib.Core.Path.{_≡_, ap, _∙_}
 use Rattle.measure.specs.Offsets.{measured}
 use Rattle.measure.proofs.laws.Tests.{holds, fails}
 use borrow.Author.Needs.{needs}

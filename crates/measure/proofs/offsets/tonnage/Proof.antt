@@ -1,6 +1,6 @@
 -- `offsets::tonnage` meets its contract: what is taken is what each kind's function asks.
 use Prim.Native.Nat.{ℕ}
-use mathlib.Core.Path.{_≡_, refl, ap, _∙_}
+use mathlib.Core.Path.{refl, ap, _∙_}
 use Rattle.measure.specs.Volumes.{tons, levelVolume}
 use Rattle.measure.specs.Offsets.{tonnage}
 use Rattle.measure.specs.declared.kinds.Kind.the-variants.{BetweenDeck, Superstructure, Hatchway, Room, NoKind}

@@ -1,6 +1,6 @@
 -- `offsets::under_deck` meets its contract: what is taken is what a U asks.
 use Prim.Native.Nat.{ℕ}
-use mathlib.Core.Path.{_≡_, ap₂, _∙_}
+use mathlib.Core.Path.{ap₂, _∙_}
 use Rattle.measure.specs.Volumes.{tons, underDeckVolume}
 use Rattle.measure.specs.Offsets.{middleOf, tonnage}
 use Rattle.measure.specs.declared.kinds.Kind.the-variants.{UnderDeck}

@@ -1,6 +1,6 @@
 -- `parts::distance` meets its contract: the two products are those of the definition, and each is below 2 ^ 37.
 use Prim.Native.Nat.{ℕ, _*_, _<_, _^_}
-use mathlib.Core.Path.{_≡_, ap}
+use mathlib.Core.Path.{ap}
 use Rattle.measure.specs.Parts.{distance}
 use Rattle.measure.proofs.laws.Products.{below}
 use borrow.Author.Needs.{needs}

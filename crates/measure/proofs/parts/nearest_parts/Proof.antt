@@ -1,5 +1,5 @@
 -- `parts::nearest_parts` meets its contract. The loop's invariant: the best so far is the nearest of 2, 4, .., 2 j + 2.
-use Prim.Native.Nat.{ℕ, suc, _≤_, _+_, _*_, _-_}
+use Prim.Native.Nat.{suc, _≤_, _-_}
 use mathlib.Core.Path.{_≡_, refl, ap, sym, _∙_}
 use native.Mathlib.Numerals.{add-one}
 use Rattle.measure.specs.Parts.{nearestUpTo, nearer, nearestParts}

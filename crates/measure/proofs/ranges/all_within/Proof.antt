@@ -1,5 +1,5 @@
 -- `ranges::all_within` meets its contract. The loop's invariant: what is left of the list is within where the whole is.
-use Prim.Native.Nat.{_≤_, _+_, _-_}
+use Prim.Native.Nat.{_≤_, _-_}
 use mathlib.Core.Path.{_≡_, refl, sym, ap, _∙_}
 use lib.ListN.{length, drop, drop-of-length-le}
 use Rattle.measure.specs.Ranges.{allWithin}

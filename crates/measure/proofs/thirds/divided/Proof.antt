@@ -1,5 +1,5 @@
 -- `thirds::divided` meets its contract.
-use mathlib.Core.Path.{_≡_, sym, _∙_}
+use mathlib.Core.Path.{sym, _∙_}
 use borrow.Author.Tests.{eq-eqb, ne-eqb}
 use Rattle.measure.specs.Thirds.{divided}
 use Rattle.measure.proofs.laws.Parts.{parts-most}

@@ -1,5 +1,4 @@
 -- `calls::needs_mark` meets its contract.
-use mathlib.Core.Path.{sym}
 use Rattle.sheet.proofs.calls.needs_mark.Statement.{statement}
 use Rattle.sheet.proofs.calls.needs_mark.Tie as tie
 

@@ -2,10 +2,8 @@
 use Prim.Native.Nat.{ℕ, _≤_, _+_, _-_}
 use mathlib.Core.Path.{_≡_, refl, sym, ap, _∙_}
 use mathlib.Core.List.{[]}
-use lib.ListN.{length, take, drop, getD}
-use Rattle.spaces.specs.Space.{emptySpace}
-use Rattle.sheet.specs.Resume.{firstRefused, recordNumber}
-use Rattle.sheet.specs.declared.resume.RefusedRecord.{RefusedRecord}
+use lib.ListN.{length, take, drop}
+use Rattle.sheet.specs.Resume.{firstRefused}
 use Rattle.sheet.proofs.laws.Resume.{record-passed, record-refused, none-refused}
 use borrow.Author.Needs.{needs}
 use native.Mathlib.Omega.{arith}

@@ -1,5 +1,5 @@
 -- `resume::misrecorded` meets its contract.
-use mathlib.Core.Path.{_≡_, sym, ap, _∙_}
+use mathlib.Core.Path.{_≡_, ap, _∙_}
 use borrow.Author.Tests.{lt-ltb, le-ltb, eq-eqb, ne-eqb}
 use Rattle.measure.specs.Ranges.{within, lengths}
 use Rattle.measure.specs.Kinds.{kindOf}

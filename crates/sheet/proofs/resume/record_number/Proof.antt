@@ -1,5 +1,5 @@
 -- `resume::record_number` meets its contract.
-use mathlib.Core.Path.{_≡_, sym, _∙_}
+use mathlib.Core.Path.{sym, _∙_}
 use lib.ListN.{take}
 use Rattle.spaces.specs.Rules.{entryTests, entryNumber}
 use Rattle.sheet.specs.Resume.{misrecorded, recordNumber}

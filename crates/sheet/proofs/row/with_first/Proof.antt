@@ -1,5 +1,5 @@
 -- `row::with_first` meets its contract. The loop's invariant: up to i each is the other array's.
-use Prim.Native.Nat.{_+_, _-_, _≤_, _<_}
+use Prim.Native.Nat.{_-_, _≤_}
 use mathlib.Core.Path.{_≡_, ap, _∙_}
 use lib.ListN.{length, getD, set}
 use lib.Seq.{paste}

@@ -1,5 +1,5 @@
 -- `row::without_oldest` meets its contract. The loop's invariant: up to i each is the one that was after it.
-use Prim.Native.Nat.{_+_, _-_, _≤_, _<_}
+use Prim.Native.Nat.{_-_, _<_}
 use mathlib.Core.Path.{_≡_, ap, _∙_}
 use lib.ListN.{length, drop}
 use lib.Seq.{paste}

@@ -4,9 +4,8 @@ use mathlib.Core.Path.{_≡_, ap₂, _∙_}
 use lib.ListN.{take}
 use Rattle.measure.specs.Allowances.{ballastOver}
 use Rattle.spaces.specs.Row.{sumOf}
-use Rattle.spaces.specs.Gross.{exempt, grossOver, gross, net, unjustified}
-use Rattle.spaces.specs.declared.gross.Reckoning.{Reckoning}
-use Rattle.spaces.specs.declared.sums.Amount.the-variants.{Lengths, Hull, Hatchways, Exempt, Ballast, Deducted}
+use Rattle.spaces.specs.Gross.{grossOver, gross, net, unjustified}
+use Rattle.spaces.specs.declared.sums.Amount.the-variants.{Hull, Hatchways, Exempt}
 use borrow.Author.Needs.{needs}
 use Rattle.spaces.proofs.gross.reckon.Statement.{statement}
 use Rattle.spaces.proofs.gross.reckon.Tie as tie

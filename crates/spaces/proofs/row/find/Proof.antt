@@ -1,5 +1,5 @@
 -- `row::find` meets its contract. The loop's invariant: the space is found in what is left where it is found in the whole.
-use Prim.Native.Nat.{_≤_, _+_, _-_}
+use Prim.Native.Nat.{_≤_, _-_}
 use mathlib.Core.Path.{_≡_, refl, sym, ap, _∙_}
 use mathlib.Core.Option.{some}
 use borrow.Author.Tests.{eq-eqb, ne-eqb}

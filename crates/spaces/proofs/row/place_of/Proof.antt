@@ -1,6 +1,6 @@
 -- `row::place_of` meets its contract. The loop's invariant: the place in what is left, and the places passed, are the place.
-use Prim.Native.Nat.{ℕ, suc, _≤_, _+_, _-_}
-use mathlib.Core.Path.{_≡_, refl, sym, ap, _∙_}
+use Prim.Native.Nat.{suc, _≤_, _+_, _-_}
+use mathlib.Core.Path.{_≡_, ap, _∙_}
 use native.Mathlib.Nat.{zero-add}
 use borrow.Author.Tests.{eq-eqb, ne-eqb}
 use lib.ListN.{length, take, drop}

@@ -1,5 +1,5 @@
 -- `row::space_with` meets its contract.
-use mathlib.Core.Path.{_≡_, sym, ap, _∙_}
+use mathlib.Core.Path.{sym, ap, _∙_}
 use lib.ListN.{take}
 use Rattle.spaces.specs.Row.{find, spaceWith}
 use Rattle.spaces.proofs.laws.Found.{found-at, found-nothing}

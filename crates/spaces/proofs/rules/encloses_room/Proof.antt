@@ -1,6 +1,5 @@
 -- `rules::encloses_room` meets its contract.
 use mathlib.Core.Path.{ap}
-use Prim.Native.Nat.{ℕ}
 use lib.Dec.{ltb}
 use borrow.Author.Needs.{needs}
 use Rattle.spaces.proofs.rules.encloses_room.Statement.{statement}

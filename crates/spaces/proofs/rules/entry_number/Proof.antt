@@ -1,5 +1,4 @@
 -- `rules::entry_number` meets its contract: the tests of 4 to 10, in the table's order.
-use Prim.Native.Nat.{ℕ}
 use mathlib.Core.Path.{_≡_, sym, ap, _∙_}
 use mathlib.Core.Bool.{false, not, _&&_}
 use borrow.Author.Tests.{lt-ltb, le-ltb, le-leb, lt-leb}

@@ -1,5 +1,5 @@
 -- `rules::mark_number` meets its contract: the tests of 5, 6 and 8, in the table's order.
-use mathlib.Core.Path.{_≡_, sym, ap, _∙_}
+use mathlib.Core.Path.{sym, _∙_}
 use lib.ListN.{take}
 use Rattle.spaces.specs.Row.{find}
 use Rattle.spaces.specs.Rules.{markNumber}

@@ -1,5 +1,4 @@
 -- `rules::misplaced` meets its contract.
-use mathlib.Core.Path.{_≡_}
 use lib.ListN.{take}
 use Rattle.spaces.specs.Enclosure.{enclosing}
 use Rattle.measure.proofs.laws.Tests.{holds, fails}

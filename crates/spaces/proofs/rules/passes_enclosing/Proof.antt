@@ -1,5 +1,5 @@
 -- `rules::passes_enclosing` meets its contract.
-use mathlib.Core.Path.{_≡_, sym, ap}
+use mathlib.Core.Path.{ap}
 use Prim.Native.Nat.{ℕ, _+_}
 use lib.Dec.{ltb}
 use lib.ListN.{take}

@@ -1,5 +1,5 @@
 -- `sums::share` meets its contract: each arm is the definition's case.
-use mathlib.Core.Path.{_≡_, ap, _∙_}
+use mathlib.Core.Path.{ap, _∙_}
 use mathlib.Core.Bool.{Bool}
 use Rattle.spaces.specs.Row.{only}
 use borrow.Author.Needs.{needs}

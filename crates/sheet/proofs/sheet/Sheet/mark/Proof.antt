@@ -2,16 +2,14 @@
 use mathlib.Core.Path.{_≡_, sym, ap, ap₂, _∙_}
 use Prim.Native.Nat.{ℕ}
 use Rattle.measure.proofs.laws.Tests.{holds, fails}
-use borrow.Author.Tests.{not-false, lt-ltb, le-ltb, ne-eqb, eq-eqb}
+use borrow.Author.Tests.{not-false, lt-ltb, le-ltb}
 use Rattle.sheet.specs.Sheet.{standing, usable}
 use Rattle.sheet.specs.Changes.{made, noted}
 use Rattle.sheet.specs.declared.changes.Change.{Change}
 use Rattle.sheet.specs.declared.sheet.Sheet.{Sheet}
-use Rattle.sheet.specs.declared.calls.Changed.{Changed}
 use mathlib.Core.List.{_∷_}
 use lib.Dec.{ltb}
 use Rattle.spaces.specs.Rules.{markTests, markNumber}
-use Rattle.spaces.specs.Row.{find, placeOf, spaceWith}
 use Rattle.spaces.specs.declared.space.Space.{Space}
 use Rattle.sheet.specs.Calls.{answered, changed, marking, marked}
 use Rattle.sheet.specs.declared.changes.Change.the-variants.{Marked}

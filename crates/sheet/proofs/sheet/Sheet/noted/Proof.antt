@@ -1,5 +1,5 @@
 -- `Sheet::noted` meets its contract.
-use mathlib.Core.Path.{_≡_, ap, _∙_}
+use mathlib.Core.Path.{ap, _∙_}
 use mathlib.Core.List.{List}
 use lib.ListN.{set}
 use Rattle.sheet.specs.Changes.{withChanges}

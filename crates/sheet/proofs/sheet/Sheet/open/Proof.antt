@@ -1,11 +1,7 @@
 -- `Sheet::open` meets its contract.
-use mathlib.Core.Path.{_≡_, sym, ap, _∙_}
-use Prim.Native.Nat.{ℕ}
 use Rattle.measure.proofs.laws.Tests.{holds, fails}
 use Rattle.sheet.specs.Sheet.{blank}
 use Rattle.sheet.specs.Calls.{openedWith}
-use Rattle.sheet.specs.declared.sheet.Sheet.{Sheet}
-use Rattle.sheet.specs.declared.calls.Changed.{Changed}
 use borrow.Author.Needs.{needs}
 use Rattle.sheet.proofs.sheet.Sheet.open.Statement.{statement}
 use Rattle.sheet.proofs.sheet.Sheet.open.Tie as tie

@@ -1,17 +1,14 @@
 -- `Sheet::redo` meets its contract: the tests of 1 and 12, and the change made again.
-use mathlib.Core.Path.{_≡_, sym, ap, ap₂, _∙_}
+use mathlib.Core.Path.{sym, ap, _∙_}
 use Prim.Native.Nat.{ℕ}
 use Rattle.measure.proofs.laws.Tests.{holds, fails}
-use borrow.Author.Tests.{not-false, lt-ltb, le-ltb, ne-eqb, eq-eqb}
-use Rattle.sheet.specs.Sheet.{standing, usable}
-use Rattle.sheet.specs.Changes.{made, noted}
-use Rattle.sheet.specs.declared.changes.Change.{Change}
+use borrow.Author.Tests.{not-false, ne-eqb, eq-eqb}
+use Rattle.sheet.specs.Sheet.{usable}
+use Rattle.sheet.specs.Changes.{made}
 use Rattle.sheet.specs.declared.sheet.Sheet.{Sheet}
-use Rattle.sheet.specs.declared.calls.Changed.{Changed}
 use mathlib.Core.List.{[], _∷_}
 use Prim.Native.Nat.{_+_, _-_}
 use lib.Dec.{eqb}
-use Rattle.sheet.specs.Changes.{takenBack}
 use Rattle.sheet.specs.Calls.{answered, changeAt, recounted, redone}
 use Rattle.sheet.proofs.laws.Sheet.{usable-counts}
 use Rattle.sheet.proofs.laws.Calls.{applies, passes, not-open, is-open, places}

@@ -1,7 +1,7 @@
 -- `Sheet::report` meets its contract: the tests of 1, 2, 13 and 14, and the figures reckoned.
 use mathlib.Core.Path.{_≡_, sym, ap, _∙_}
-use mathlib.Core.Bool.{Bool, true, cond, not, _&&_}
-use mathlib.Core.List.{List, [], _∷_}
+use mathlib.Core.Bool.{true, not, _&&_}
+use mathlib.Core.List.{[], _∷_}
 use Prim.Native.Nat.{ℕ, _≤_}
 use Rattle.measure.proofs.laws.Tests.{holds, fails}
 use borrow.Author.Tests.{lt-ltb, le-ltb, ne-eqb, eq-eqb}
@@ -14,21 +14,11 @@ use Rattle.spaces.specs.declared.gross.Reckoning.{Reckoning}
 use Rattle.sheet.specs.Sheet.{standing, usable}
 use Rattle.sheet.specs.Calls.{reported, reportedWith}
 use Rattle.sheet.specs.declared.sheet.Sheet.{Sheet}
-use Rattle.sheet.specs.declared.calls.Reported.{Reported}
 use Rattle.sheet.proofs.laws.Calls.{applies, passes, not-open, is-open}
+use Rattle.sheet.proofs.laws.Report.{from-2, from-13, from-14}
 use borrow.Author.Needs.{needs}
 use Rattle.sheet.proofs.sheet.Sheet.report.Statement.{statement}
 use Rattle.sheet.proofs.sheet.Sheet.report.Tie as tie
-
--- the tests from the one of a number on
-abbrev from-14 : Sheet → ℕ → List (Bool × ℕ)
-from-14 s j = (unjustified (standing s) && eqb j 0, 14) ∷ []
-
-abbrev from-13 : Sheet → ℕ → List (Bool × ℕ)
-from-13 s j = (not (eqb (sumOf Lengths (standing s)) (s .length)), 13) ∷ from-14 s j
-
-abbrev from-2 : Sheet → ℕ → List (Bool × ℕ)
-from-2 s j = (ltb 1 j, 2) ∷ from-13 s j
 
 -- 1 and 2 are passed over, and then 13
 past-2 : (s : Sheet) (j : ℕ) → usable s ≡ true → j ≤ 1 → firstOf ((not (usable s), 1) ∷ from-2 s j) ≡ firstOf (from-13 s j)

@@ -1,20 +1,17 @@
 -- `Sheet::resume` meets its contract.
-use mathlib.Core.Path.{_≡_, sym, ap, ap₂, _∙_}
-use mathlib.Core.Bool.{Bool, true, cond}
-use mathlib.Core.List.{List, []}
+use mathlib.Core.Path.{sym, ap, ap₂, _∙_}
+use mathlib.Core.Bool.{Bool, cond}
+use mathlib.Core.List.{[]}
 use Prim.Native.Nat.{ℕ}
 use native.Mathlib.Nat.{min-le-right}
 use borrow.Author.Tests.{eq-eqb, ne-eqb}
 use lib.Dec.{eqb}
 use lib.ListN.{take}
 use Rattle.measure.proofs.laws.Tests.{holds, fails}
-use Rattle.measure.specs.Ranges.{within, tonnageLengths}
-use Rattle.spaces.specs.declared.space.Space.{Space}
 use Rattle.spaces.proofs.laws.Row.{take-used}
 use Rattle.sheet.specs.Sheet.{blank}
 use Rattle.sheet.specs.Changes.{withStanding}
 use Rattle.sheet.specs.Resume.{firstRefused, sheetOf, refused, resumed}
-use Rattle.sheet.specs.declared.resume.Resumed.{Resumed}
 use Rattle.sheet.specs.declared.resume.RefusedRecord.{RefusedRecord}
 use Rattle.sheet.specs.declared.sheet.Sheet.{Sheet}
 use borrow.Author.Needs.{needs}

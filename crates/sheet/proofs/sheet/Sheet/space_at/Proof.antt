@@ -1,5 +1,5 @@
 -- `Sheet::space_at` meets its contract.
-use mathlib.Core.Path.{_≡_, sym, _∙_}
+use mathlib.Core.Path.{sym, _∙_}
 use borrow.Author.Tests.{lt-ltb, le-ltb}
 use Rattle.sheet.specs.Sheet.{standingCount, spaceAt}
 use Rattle.sheet.proofs.laws.Sheet.{standing-count-le}

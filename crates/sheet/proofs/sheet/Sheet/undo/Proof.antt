@@ -1,13 +1,10 @@
 -- `Sheet::undo` meets its contract: the tests of 1 and 12, and the change taken back.
-use mathlib.Core.Path.{_≡_, sym, ap, ap₂, _∙_}
+use mathlib.Core.Path.{sym, ap, _∙_}
 use Prim.Native.Nat.{ℕ}
 use Rattle.measure.proofs.laws.Tests.{holds, fails}
-use borrow.Author.Tests.{not-false, lt-ltb, le-ltb, ne-eqb, eq-eqb}
-use Rattle.sheet.specs.Sheet.{standing, usable}
-use Rattle.sheet.specs.Changes.{made, noted}
-use Rattle.sheet.specs.declared.changes.Change.{Change}
+use borrow.Author.Tests.{not-false, ne-eqb, eq-eqb}
+use Rattle.sheet.specs.Sheet.{usable}
 use Rattle.sheet.specs.declared.sheet.Sheet.{Sheet}
-use Rattle.sheet.specs.declared.calls.Changed.{Changed}
 use mathlib.Core.List.{[], _∷_}
 use Prim.Native.Nat.{_+_, _-_}
 use lib.Dec.{eqb}

@@ -1,6 +1,6 @@
 -- `Sheet::usable` meets its contract.
 use Prim.Native.Nat.{ℕ, _-_}
-use mathlib.Core.Path.{sym, ap, _∙_}
+use mathlib.Core.Path.{ap, _∙_}
 use borrow.Author.Tests.{not-true, not-false, le-leb, lt-leb}
 use lib.Dec.{leb}
 use Rattle.sheet.specs.Sheet.{usable}

@@ -7,9 +7,7 @@ use Rattle.sheet.specs.Sheet.{standing, usable}
 use Rattle.sheet.specs.Changes.{made, noted}
 use Rattle.sheet.specs.declared.changes.Change.{Change}
 use Rattle.sheet.specs.declared.sheet.Sheet.{Sheet}
-use Rattle.sheet.specs.declared.calls.Changed.{Changed}
 use Rattle.spaces.specs.Rules.{withdrawTests, withdrawNumber}
-use Rattle.spaces.specs.Row.{find, placeOf, spaceWith}
 use Rattle.sheet.specs.Calls.{answered, changed, withdrawal, withdrawn}
 use Rattle.sheet.specs.declared.changes.Change.the-variants.{Withdrawn}
 use Rattle.sheet.proofs.laws.Calls.{not-open, is-open, refused, fitted-open-places, places, open-places}

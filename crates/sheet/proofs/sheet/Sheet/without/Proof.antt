@@ -1,5 +1,5 @@
 -- `Sheet::without` meets its contract.
-use mathlib.Core.Path.{_≡_, ap, _∙_}
+use mathlib.Core.Path.{ap, _∙_}
 use mathlib.Core.List.{List}
 use Prim.Native.Nat.{_-_}
 use Rattle.spaces.specs.declared.space.Space.{Space}

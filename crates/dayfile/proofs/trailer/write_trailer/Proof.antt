@@ -1,0 +1,53 @@
+-- `write_trailer` meets its contract: the distance is the size of the sheet.
+use Prim.Native.Nat.{ℕ}
+use mathlib.Core.Path.{ap, _∙_}
+use mathlib.Core.List.{[], _∷_}
+use lib.Seq.{sets}
+use Rattle.dayfile.specs.Fields.{widths, encoded}
+use Rattle.dayfile.specs.Trailer.{trailerFields}
+use borrow.Author.Needs.{needs}
+use Rattle.dayfile.proofs.trailer.write_trailer.Statement.{statement}
+use Rattle.dayfile.proofs.trailer.write_trailer.Tie as tie
+
+sheet-size-requires : tie.Need-sheet-size-requires
+sheet-size-requires c κs = search needs
+
+cast-t9 : tie.Need-cast-t9
+cast-t9 c = search needs
+
+cast-t10 : tie.Need-cast-t10
+cast-t10 c = search needs
+
+slice-aggregate-put-fields : tie.Need-slice-aggregate-put-fields
+slice-aggregate-put-fields c = search needs
+
+slice-aggregate-put-fields-2 : tie.Need-slice-aggregate-put-fields-2
+slice-aggregate-put-fields-2 c = search needs
+
+put-fields-requires : tie.Need-put-fields-requires
+put-fields-requires c κs = search needs
+
+same-length : tie.Need-same-length
+same-length c = search needs
+
+returns : tie.Need-returns
+returns c =
+    let a = c .before .before .before .before .before .before .before .before .before .before .args in
+    let t = a .t in
+    c .before .before .put-fields .ensures
+    ∙ ap
+    (λ (distance : ℕ). sets (a .buf .now) 0 (encoded (widths trailerFields) (distance ∷ t .count ∷ t .justified ∷ 0 ∷ t .«tonnage_length» ∷ t .gross ∷ t .net ∷ [])))
+    (c .before .before .before .before .before .before .before .before .sheet-size .ensures)
+
+pub write-trailer-spec : {M : Type 1} → statement M
+write-trailer-spec =
+    tie.close
+    (tie.spec
+    sheet-size-requires
+    cast-t9
+    cast-t10
+    slice-aggregate-put-fields
+    slice-aggregate-put-fields-2
+    put-fields-requires
+    same-length
+    returns)

@@ -1,0 +1,182 @@
+-- `write` meets its contract: refused as its report is, or for room; else the records and then the trailer are stored.
+use Prim.Native.Nat.{ℕ, _+_, _*_, _-_, _<_, _≤_}
+use mathlib.Core.Path.{_≡_, refl, sym, ap, _∙_}
+use mathlib.Core.List.{List}
+use native.Mathlib.Omega.{arith}
+use lib.ListN.{length, take, length-take, length-drop}
+use lib.Seq.{sets, length-take-le}
+use Rattle.sheet.specs.Calls.{reported}
+use Rattle.sheet.specs.declared.sheet.Sheet.{Sheet}
+use Rattle.sheet.specs.declared.calls.Reported.{Reported}
+use Rattle.sheet.proofs.laws.Sheet.{standing-count-le, usable-counts}
+use Rattle.sheet.proofs.laws.Report.{given, handed-out}
+use Rattle.dayfile.specs.Record.{recordSize, records}
+use Rattle.dayfile.specs.Trailer.{trailerBytes, sheetSize}
+use Rattle.dayfile.specs.Writing.{sheetBytes}
+use Rattle.dayfile.specs.declared.trailer.Trailer.{Trailer}
+use Rattle.dayfile.proofs.laws.Stores.{stored-in-two-parts}
+use Rattle.dayfile.proofs.laws.Record.{length-records}
+use Rattle.dayfile.proofs.laws.Writing.{Answered, length-sheet, trailer-is, bytes-are, refused-with, as-report, no-room, room, accepted}
+use borrow.Author.Needs.{needs}
+use Rattle.dayfile.proofs.writing.write.Statement.{statement}
+use Rattle.dayfile.proofs.writing.write.Tie as tie
+
+-- 15 once the report is given
+refused-15 : (s : Sheet) (justified at : ℕ) (buffer : List ℕ) → reported s justified .number ≡ 0 → length buffer - at < sheetSize (s .count)
+    → Answered s justified at buffer (record { number = 15; bytes = 0; sheet = s }) buffer
+refused-15 s justified at buffer e h = refused-with s justified at buffer 15 (no-room s justified at buffer e h) (λ z. omega arith)
+
+report-requires : tie.Need-report-requires
+report-requires c κs = search needs
+
+refused-requires : tie.Need-refused-requires
+refused-requires c κs = search needs
+
+returns : tie.Need-returns
+returns c =
+    let a = c .before .before .before .before .before .args in
+    let e = ap (λ (r : Reported). r .number) (c .before .before .before .report .ensures) in
+    let none = c .before .if1 .taken in
+    let w = refused-with (a .sheet) (a .justified) (a .at) (a .buf .now) _ (as-report (a .sheet) (a .justified) (a .at) (a .buf .now) _ (sym e) none) none in
+    (c .refused .ensures ∙ w .0, w .1)
+
+standing-count-requires : tie.Need-standing-count-requires
+standing-count-requires c κs = search needs
+
+sheet-size-requires : tie.Need-sheet-size-requires
+sheet-size-requires c κs =
+    let a = c .before .before .before .before .before .args in
+    omega (arith, c .standing-count .ensures, standing-count-le (a .sheet))
+
+refused-requires-2 : tie.Need-refused-requires-2
+refused-requires-2 c κs = search needs
+
+returns-2 : tie.Need-returns-2
+returns-2 c =
+    let a = c .before .before .before .before .before .before .before .before .args in
+    let g = given (a .sheet) (a .justified) _ (c .before .before .before .before .before .before .report .ensures) (c .before .before .before .before .if1 .left) in
+    let w = refused-15 (a .sheet) (a .justified) (a .at) (a .buf .now) (g .number-is) (omega (arith, c .before .if2 .taken)) in
+    (c .refused2 .ensures ∙ w .0, w .1)
+
+sub-if3 : tie.Need-sub-if3
+sub-if3 c = search needs
+
+refused-requires-3 : tie.Need-refused-requires-3
+refused-requires-3 c κs = search needs
+
+returns-3 : tie.Need-returns-3
+returns-3 c =
+    let a = c .before .before .before .before .before .before .before .before .before .args in
+    let g = given (a .sheet) (a .justified) _ (c .before .before .before .before .before .before .before .report .ensures) (c .before .before .before .before .before .if1 .left) in
+    let n = c .before .before .before .before .standing-count .ensures ∙ handed-out (a .sheet) (g .is-usable) .count-is in
+    let w = refused-15 (a .sheet) (a .justified) (a .at) (a .buf .now) (g .number-is) (omega (arith, c .before .if3 .taken, c .before .before .before .sheet-size .ensures, n)) in
+    (c .refused3 .ensures ∙ w .0, w .1)
+
+tonnage-length-requires : tie.Need-tonnage-length-requires
+tonnage-length-requires c κs = search needs
+
+sub-write-records : tie.Need-sub-write-records
+sub-write-records c = search needs
+
+part-write-records-start : tie.Need-part-write-records-start
+part-write-records-start c = search needs
+
+part-write-records-end : tie.Need-part-write-records-end
+part-write-records-end c = search needs
+
+places-requires : tie.Need-places-requires
+places-requires c κs = search needs
+
+write-records-requires : tie.Need-write-records-requires
+write-records-requires c κs =
+    let a = c .before .before .before .before .before .before .before .before .before .before .before .args in (
+      omega (arith, c .before .before .before .before .before .before .standing-count .ensures, standing-count-le (a .sheet)),
+      simp (length-take, length-drop) (omega (arith, c .before .before .before .before .before .sheet-size .ensures, c .before .before .before .if3 .left)),
+    )
+
+mul-end : tie.Need-mul-end
+mul-end c = search needs
+
+add-end : tie.Need-add-end
+add-end c = search needs
+
+sub-write-trailer : tie.Need-sub-write-trailer
+sub-write-trailer c = search needs
+
+part-write-trailer-start : tie.Need-part-write-trailer-start
+part-write-trailer-start c = search needs
+
+part-write-trailer-end : tie.Need-part-write-trailer-end
+part-write-trailer-end c = search needs
+
+write-trailer-requires : tie.Need-write-trailer-requires
+write-trailer-requires c κs =
+    let a = c .before .before .before .before .before .before .before .before .before .before .before .before .before .before .before .args in (
+      search needs,
+      omega (arith, c .before .before .before .before .before .before .before .before .before .before .standing-count .ensures, standing-count-le (a .sheet)),
+    )
+
+same-length : tie.Need-same-length
+same-length c = search needs
+
+returns-4 : tie.Need-returns-4
+returns-4 c =
+    let a = c .before .before .before .before .before .before .before .before .before .before .before .before .before .before .before .before .before .before .args in
+    let s = a .sheet in
+    let g = given s (a .justified) _ (c .before .before .before .before .before .before .before .before .before .before .before .before .before .before .before .before .report .ensures) (c .before .before .before .before .before .before .before .before .before .before .before .before .before .before .if1 .left) in
+    let out = handed-out s (g .is-usable) in
+    let n = c .before .before .before .before .before .before .before .before .before .before .before .before .before .standing-count .result in
+    let count : n ≡ s .count = c .before .before .before .before .before .before .before .before .before .before .before .before .before .standing-count .ensures ∙ out .count-is in
+    let row : c .before .before .before .before .before .before .before .places .result ≡ s .spaces = c .before .before .before .before .before .before .before .places .ensures ∙ out .places-are in
+    let whole : length (c .before .before .before .before .before .before .before .places .result) ≡ 200 = search needs in
+    let many : s .count ≤ length (s .spaces) = omega (arith, sym (ap length row) ∙ whole, usable-counts s (g .is-usable) .places) in
+    let size : c .before .before .before .before .before .before .before .before .before .before .before .before .sheet-size .result ≡ sheetSize (s .count) = c .before .before .before .before .before .before .before .before .before .before .before .before .sheet-size .ensures ∙ ap sheetSize count in
+    let all : length (sheetBytes s (a .justified)) ≡ sheetSize (s .count) = length-sheet s (a .justified) many in
+    let w =
+    accepted s (a .justified) (a .at) (a .buf .now)
+    (room s (a .justified) (a .at) (a .buf .now) (g .number-is) (omega (arith, size, c .before .before .before .before .before .before .before .before .before .before .if3 .left)))
+    (omega (arith, size, all, c .before .before .before .before .before .before .before .before .before .before .if3 .left, c .before .before .before .before .before .before .before .before .before .before .before .if2 .left)) in
+    let t : Trailer = record { count = n; justified = a .justified; «tonnage_length» = c .before .before .before .before .before .before .before .before .before .tonnage-length .result; gross = c .before .before .before .before .before .before .before .before .before .before .before .before .before .before .before .before .report .result .gross; net = c .before .before .before .before .before .before .before .before .before .before .before .before .before .before .before .before .report .result .net } in
+    let trailer = trailer-is s (a .justified) n _ _ _ count (c .before .before .before .before .before .before .before .before .before .tonnage-length .ensures ∙ out .length-is) (g .gross-is) (g .net-is) in
+    let first : length (records (take n (c .before .before .before .before .before .before .before .places .result))) ≡ recordSize * n =
+    length-records (take n (c .before .before .before .before .before .before .before .places .result)) ∙ ap (λ (k : ℕ). recordSize * k) (length-take-le n (c .before .before .before .before .before .before .before .places .result) (omega (arith, count, whole, usable-counts s (g .is-usable) .places))) in
+    let stored =
+    stored-in-two-parts (a .buf .now) _ _ _ (records (take n (c .before .before .before .before .before .before .before .places .result))) (trailerBytes t) (a .at) (a .at + recordSize * n)
+    (c .before .before .before .before .before .before .before .before .before .before .before .if2 .left)
+    (ap (λ (k : ℕ). a .at + k) (sym first))
+    (omega (arith, c .before .before .before .before .before .before .before .before .before .before .before .before .sheet-size .ensures, c .before .before .before .before .before .before .before .before .before .before .if3 .left, c .before .before .before .before .before .before .before .before .before .before .before .if2 .left))
+    refl
+    (c .before .before .before .before .before .before .write-records .ensures)
+    (c .before .before .write-trailer .ensures) in (
+      ap (λ (k : ℕ). record { number = 0; bytes = k; sheet = s }) size ∙ w .0,
+      stored ∙ ap (λ (b : List ℕ). sets (a .buf .now) (a .at) b) (bytes-are s (a .justified) n _ t count row trailer) ∙ w .1,
+    )
+
+pub write-spec : {M : Type 1} → statement M
+write-spec =
+    tie.close
+    (tie.spec
+    report-requires
+    refused-requires
+    returns
+    standing-count-requires
+    sheet-size-requires
+    refused-requires-2
+    returns-2
+    sub-if3
+    refused-requires-3
+    returns-3
+    tonnage-length-requires
+    sub-write-records
+    part-write-records-start
+    part-write-records-end
+    places-requires
+    write-records-requires
+    mul-end
+    add-end
+    sub-write-trailer
+    part-write-trailer-start
+    part-write-trailer-end
+    write-trailer-requires
+    same-length
+    returns-4)

@@ -1,0 +1,8 @@
+-- The day's file as document 01 has it ("The file", and rows 13 to 18 of "Numbers of refusal"). Read these files from top to bottom.
+pub mod Numbers
+pub mod Fields
+pub mod Record
+pub mod Trailer
+pub mod Writing
+pub mod Reading
+pub mod Handed

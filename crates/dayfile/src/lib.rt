@@ -1,0 +1,18 @@
+// Floor 4: the day's file ("The file"), read and written. Sheets come from `sheet`, and go back to it: no sheet is made
+// here. Knows nothing of programs.
+//
+// No public function asks anything of its caller; each takes any numbers and any bytes, ends, and answers what its
+// definition in specs/ says, of every byte of a lent buffer too.
+mod fields;
+mod numbers;
+mod reading;
+mod record;
+mod trailer;
+mod writing;
+
+pub use reading::Reading;
+pub use reading::part_before;
+pub use reading::part_from;
+pub use reading::read;
+pub use writing::Written;
+pub use writing::write;

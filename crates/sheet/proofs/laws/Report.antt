@@ -1,0 +1,59 @@
+-- What a report that is given tells of the sheet.
+use Prim.Native.Nat.{ℕ, _≤_}
+use mathlib.Core.Path.{_≡_, sym, ap, _∙_}
+use mathlib.Core.Bool.{Bool, true, cond, not, _&&_}
+use mathlib.Core.List.{List, [], _∷_}
+use native.Mathlib.Omega.{arith}
+use borrow.Author.Tests.{not-false, eq-eqb, ltb-false}
+use lib.Dec.{eqb, ltb}
+use Rattle.spaces.specs.Row.{sumOf}
+use Rattle.spaces.specs.Gross.{gross, net, unjustified}
+use Rattle.spaces.specs.declared.sums.Amount.the-variants.{Lengths}
+use Rattle.sheet.specs.Sheet.{standing, usable, lengthOf, standingCount, placesOf}
+use Rattle.sheet.specs.Calls.{reportNumber, reported}
+use Rattle.sheet.specs.declared.sheet.Sheet.{Sheet}
+use Rattle.sheet.specs.declared.calls.Reported.{Reported}
+use Rattle.sheet.proofs.laws.Calls.{passed}
+
+-- the tests of a report from the one of a number on
+abbrev pub from-14 : Sheet → ℕ → List (Bool × ℕ)
+from-14 s j = (unjustified (standing s) && eqb j 0, 14) ∷ []
+
+abbrev pub from-13 : Sheet → ℕ → List (Bool × ℕ)
+from-13 s j = (not (eqb (sumOf Lengths (standing s)) (s .length)), 13) ∷ from-14 s j
+
+abbrev pub from-2 : Sheet → ℕ → List (Bool × ℕ)
+from-2 s j = (ltb 1 j, 2) ∷ from-13 s j
+
+-- the report in hand, where it is given
+pub record Given (s : Sheet) (justified : ℕ) (r : Reported) : Type 0 where
+  pub number-is : reported s justified .number ≡ 0
+  pub is-usable : usable s ≡ true
+  pub marked : justified ≤ 1
+  pub gross-is : r .gross ≡ gross (standing s)
+  pub net-is : r .net ≡ net (standing s)
+
+pub given : (s : Sheet) (justified : ℕ) (r : Reported) → r ≡ reported s justified → r .number ≡ 0 → Given s justified r
+unfolding reported
+given s justified r e none =
+    let z : reportNumber s justified ≡ 0 = sym (ap (λ (x : Reported). x .number) e) ∙ none in
+    let one = passed (not (usable s)) 1 (from-2 s justified) z (λ w. omega arith) in
+    let two = passed (ltb 1 justified) 2 (from-13 s justified) (one .1) (λ w. omega arith) in
+    let zero : eqb (reportNumber s justified) 0 ≡ true = eq-eqb (reportNumber s justified) 0 z in
+    record {
+      number-is = z;
+      is-usable = not-false (usable s) (one .0);
+      marked = ltb-false 1 justified (two .0);
+      gross-is = ap (λ (x : Reported). x .gross) e ∙ ap (λ (t : Bool). cond t (gross (standing s)) 0) zero;
+      net-is = ap (λ (x : Reported). x .net) e ∙ ap (λ (t : Bool). cond t (net (standing s)) 0) zero;
+    }
+
+-- what a usable sheet hands out is what it holds
+pub record HandedOut (s : Sheet) : Type 0 where
+  pub length-is : lengthOf s ≡ s .length
+  pub count-is : standingCount s ≡ s .count
+  pub places-are : placesOf s ≡ s .spaces
+
+pub handed-out : (s : Sheet) → usable s ≡ true → HandedOut s
+unfolding lengthOf standingCount placesOf
+handed-out s e = record { length-is = rw e; count-is = rw e; places-are = rw e }
