@@ -5,4 +5,5 @@ pub mod Record
 pub mod Trailer
 pub mod Writing
 pub mod Reading
+pub mod Day
 pub mod Handed

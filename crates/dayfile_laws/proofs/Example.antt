@@ -1,0 +1,45 @@
+-- "A whole sheet" of document 01: the theorems apply to it, and "The file has 108 bytes". Stands on WrittenRead.
+use mathlib.Core.Path.{_≡_, refl, ap}
+use mathlib.Core.List.{[], _∷_}
+use lib.ListN.{length}
+use Rattle.measure.specs.Rounding.{nearest}
+use Rattle.measure.specs.Kinds.{kindOf}
+use Rattle.measure.specs.Ranges.{within}
+use Rattle.measure.specs.Allowances.{hatchwayAllowance, hatchwayExcess, ballastOver}
+use Rattle.spaces.specs.Space.{mayTake}
+use Rattle.spaces.specs.Enclosure.{above}
+use Rattle.spaces.specs.Gross.{grossOver, gross, net, unjustified}
+use Rattle.sheet.specs.Sheet.{usable, blank}
+use Rattle.sheet.specs.Calls.{reported}
+use Rattle.sheet.specs.Resume.{recordNumber, resumed}
+use Rattle.sheet.specs.declared.sheet.Sheet.{Sheet}
+use Rattle.sheet.specs.declared.calls.Reported.{Reported}
+use Rattle.dayfile.specs.Writing.{sheetBytes}
+use Rattle.dayfile_laws.proofs.Resumable.{Resumable, Writable, sheetWith}
+use Rattle.dayfile_laws.proofs.WrittenRead.{length-bytes}
+
+-- "tonnage length 4800; space 1 the U above; 2 the S above; 3 a room in 1, standing 2 ..; 4 a room in 2, standing 3 ..; 5 a hatchway"
+abbrev pub wholeSheet : Sheet
+wholeSheet =
+    sheetWith 4800
+    (record { id = 1; within = 0; kind = 1; standing = 0; tonnage = 11521; length = 4800 }
+    ∷ record { id = 2; within = 0; kind = 3; standing = 0; tonnage = 1280; length = 1600 }
+    ∷ record { id = 3; within = 1; kind = 5; standing = 2; tonnage = 400; length = 1000 }
+    ∷ record { id = 4; within = 2; kind = 5; standing = 3; tonnage = 320; length = 800 }
+    ∷ record { id = 5; within = 0; kind = 4; standing = 0; tonnage = 100; length = 500 }
+    ∷ [])
+
+resumes : Resumable wholeSheet
+unfolding within kindOf mayTake above blank recordNumber resumed
+resumes = record { places = refl; resumes = refl }
+
+-- "GROSS 124.39", "NET 121.19"
+pub whole-report : reported wholeSheet 0 ≡ record { number = 0; gross = 12439; net = 12119; sheet = wholeSheet }
+unfolding nearest hatchwayAllowance hatchwayExcess ballastOver grossOver gross net unjustified usable blank reported
+whole-report = refl
+
+pub whole-sheet-writable : Writable wholeSheet 0
+whole-sheet-writable = record { resumable = resumes; reports = ap (λ (r : Reported). r .number) whole-report }
+
+pub bytes-108 : length (sheetBytes wholeSheet 0) ≡ 108
+bytes-108 = length-bytes wholeSheet 0 whole-sheet-writable

@@ -1,0 +1,127 @@
+-- The numbers of records that `resume` accepts all fit the fields of the file. Stands on Records, Resumable.
+use Prim.Native.Nat.{ℕ, zero, suc, _*_, _≤_}
+use mathlib.Core.Path.{_≡_, refl, ap, _∙_}
+use mathlib.Core.Bool.{true, false, not, _||_}
+use mathlib.Core.List.{List, [], _∷_, _++_, List·Memᴰ·head, List·Memᴰ·tail}
+use native.Mathlib.Nat.{le-trans}
+use native.Mathlib.Omega.{arith}
+use borrow.Author.Tests.{not-false, ltb-true, ltb-false, leb-true, eqb-true}
+use lib.Dec.{ltb, leb}
+use Rattle.measure.specs.Kinds.{kindOf}
+use Rattle.measure.specs.Ranges.{within, lengths}
+use Rattle.measure.specs.Handed.{mostTons}
+use Rattle.measure.specs.declared.kinds.Kind.{Kind}
+use Rattle.measure.specs.declared.kinds.Kind.the-variants.{UnderDeck, BetweenDeck, Superstructure, Hatchway, Room, NoKind}
+use Rattle.measure.specs.declared.ranges.Range.{Range}
+use Rattle.measure.proofs.laws.Tests.{and-left}
+use Rattle.measure.proofs.laws.Ranges.{within-most}
+use Rattle.spaces.specs.Space.{isRoom, mayTake}
+use Rattle.spaces.specs.Gross.{gross, net}
+use Rattle.spaces.specs.declared.space.Space.{Space}
+use Rattle.spaces.proofs.laws.Cases.{by-test, not-both}
+use Rattle.spaces.proofs.laws.Standing.{kind-outside, standing-outside}
+use Rattle.spaces_laws.proofs.Tests.{or-fails, and-fails}
+use Rattle.spaces_laws.proofs.Lists.{_∈_, found-stands}
+use Rattle.spaces_laws.proofs.Valid.{Sound, valid-is-sound}
+use Rattle.spaces_laws.proofs.Report.{net-at-most-gross, gross-bounded}
+use Rattle.sheet.specs.Resume.{misrecorded, firstRefused}
+use Rattle.dayfile.specs.Record.{recordFields, numbersOf}
+use Rattle.dayfile_laws.proofs.Fields.{InFields, fitting-of}
+use Rattle.dayfile_laws.proofs.Records.{Fits}
+use Rattle.dayfile_laws.proofs.Resumable.{RecordsAccepted, first-passed, is-valid}
+
+-- the lengths of every kind
+every-length : (k : Kind) → (1 ≤ lengths k .least) × (lengths k .most ≤ 150000)
+every-length UnderDeck = omega arith
+every-length BetweenDeck = omega arith
+every-length Superstructure = omega arith
+every-length Hatchway = omega arith
+every-length Room = omega arith
+every-length NoKind = omega arith
+
+pub in-range : (r : Range) (x : ℕ) → within r x ≡ true → (r .least ≤ x) × (x ≤ r .most)
+unfolding within
+in-range r x e = (leb-true _ _ (and-left (leb (r .least) x) _ e), within-most r x e)
+
+-- the rows and columns of the table of standings
+kind-at-least : (kind taken : ℕ) → mayTake kind taken ≡ true → 1 ≤ kind
+unfolding mayTake
+kind-at-least zero taken e = not-both e refl
+kind-at-least (suc kind) taken e = omega arith
+
+kind-at-most : (kind taken : ℕ) → mayTake kind taken ≡ true → kind ≤ 5
+kind-at-most kind taken e =
+    by-test (ltb 5 kind) (λ t. not-both e (kind-outside kind taken (ltb-true _ _ t))) (λ f. ltb-false _ _ f)
+
+standing-at-most : (kind taken : ℕ) → mayTake kind taken ≡ true → taken ≤ 3
+standing-at-most kind taken e =
+    by-test (ltb 3 taken) (λ t. not-both e (standing-outside kind taken (ltb-true _ _ t))) (λ f. ltb-false _ _ f)
+
+-- what `misrecorded` leaves of one that an entry could have made
+record RightlyRecorded (x : Space) : Type 0 where
+  tonnage-at-most : x .tonnage ≤ mostTons
+  length-at-least : 1 ≤ x .length
+  length-at-most : x .length ≤ 150000
+  no-enclosing-id : isRoom x ≡ false → x .within ≡ 0
+
+record-facts : (x : Space) → misrecorded x ≡ false → RightlyRecorded x
+record-facts x e =
+    let a = or-fails (ltb 100000000 (x .tonnage) || not (within (lengths (kindOf (x .kind))) (x .length))) _ e in
+    let b = or-fails (ltb 100000000 (x .tonnage)) _ (a .0) in
+    let l = in-range (lengths (kindOf (x .kind))) (x .length) (not-false _ (b .1)) in
+    let k = every-length (kindOf (x .kind)) in
+    record {
+      tonnage-at-most = ltb-false _ _ (b .0);
+      length-at-least = le-trans (k .0) (l .0);
+      length-at-most = le-trans (l .1) (k .1);
+      no-enclosing-id = λ f. eqb-true _ 0 (not-false _ (and-fails (not (isRoom x)) _ (a .1) (ap not f)));
+    }
+
+rightly-recorded : (L : ℕ) (before xs : List Space) → firstRefused L before xs .number ≡ 0 → {y : Space} → y ∈ xs → RightlyRecorded y
+rightly-recorded L before (x ∷ xs) e {y} (List·Memᴰ·head same) = record-facts y (ap misrecorded same ∙ first-passed L before x xs e .0)
+rightly-recorded L before (x ∷ xs) e {y} (List·Memᴰ·tail m) = rightly-recorded L (before ++ (x ∷ [])) xs (first-passed L before x xs e .2) m
+
+-- ---- all numbers of records that are accepted
+
+module _ {L : ℕ} {xs : List Space} (a : RecordsAccepted L xs) where
+  sound : Sound L xs
+  sound = valid-is-sound (is-valid a)
+
+  recorded : {y : Space} → y ∈ xs → RightlyRecorded y
+  recorded m = rightly-recorded L [] xs (a .none-refused) m
+
+  -- an enclosing id is that of a space that stands, or 0
+  enclosing-id-at-most : {y : Space} → y ∈ xs → y .within ≤ 9999
+  enclosing-id-at-most {y} m =
+      by-test (isRoom y)
+      (λ r.
+      let home = sound .member y m .enclosed r in
+      let found = found-stands (y .within) xs {z = home .home} (home .home-stands) in
+      omega (arith, found .1, sound .member (home .home) (found .0) .id-at-most))
+      (λ f. omega (arith, recorded m .no-enclosing-id f))
+
+  pub each-fits : (y : Space) → y ∈ xs → Fits y
+  each-fits y m =
+      let o = sound .member y m in
+      let r = recorded m in
+      let facts : InFields recordFields (numbersOf y) =
+      omega (
+        arith,
+        o .id-at-least,
+        o .id-at-most,
+        enclosing-id-at-most m,
+        kind-at-least (y .kind) (y .standing) (o .may-take),
+        kind-at-most (y .kind) (y .standing) (o .may-take),
+        standing-at-most (y .kind) (y .standing) (o .may-take),
+        r .tonnage-at-most,
+        r .length-at-least,
+        r .length-at-most,
+      ) in
+      fitting-of recordFields (numbersOf y) facts
+
+  -- 200 times 100,000,000 is far below 2 ^ 64
+  pub gross-at-most : gross xs ≤ 200 * mostTons
+  gross-at-most = gross-bounded (is-valid a) (λ y m. recorded m .tonnage-at-most)
+
+  pub net-at-most : net xs ≤ 200 * mostTons
+  net-at-most = le-trans (net-at-most-gross xs) gross-at-most

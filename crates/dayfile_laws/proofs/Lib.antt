@@ -1,0 +1,11 @@
+-- What the file's definitions mean: written, then read; read, then written; a day's sheets. Read from top to bottom.
+pub mod Numbers
+pub mod Fields
+pub mod Records
+pub mod Resumable
+pub mod Fitting
+pub mod Writing
+pub mod WrittenRead
+pub mod ReadWritten
+pub mod Day
+pub mod Example

@@ -1,0 +1,107 @@
+-- What a write does to a buffer, accepted or refused: "no byte before or after is touched". Stands on nothing of the file's numbers.
+use Prim.Native.Nat.{ℕ, _+_, _-_, _≤_}
+use mathlib.Core.Path.{_≡_, refl, sym, ap, _∙_}
+use mathlib.Core.Bool.{Bool, not}
+use mathlib.Core.List.{List, [], _∷_, _++_, append-assoc}
+use native.Mathlib.Omega.{arith}
+use borrow.Author.Tests.{eq-eqb, eqb-true, eqb-false, ltb-false}
+use lib.Dec.{eqb, ltb}
+use lib.ListN.{length, take, drop, length-append, length-drop}
+use lib.Seq.{length-take-le, take-at, drop-at}
+use Rattle.measure.specs.Refusals.{firstOf}
+use Rattle.spaces.proofs.laws.Cases.{by-test}
+use Rattle.sheet.specs.Calls.{reported}
+use Rattle.sheet.specs.declared.sheet.Sheet.{Sheet}
+use Rattle.sheet.proofs.laws.Calls.{passed}
+use Rattle.dayfile.specs.Trailer.{sheetSize}
+use Rattle.dayfile.specs.Writing.{sheetBytes, writeNumber, written, placed, writtenInto}
+use Rattle.dayfile.proofs.laws.Writing.{length-sheet, room}
+
+-- the bytes of a buffer after a write: as many as before, and the same before the named place and behind the bytes written
+pub record Untouched (at bytes : ℕ) (buffer after : List ℕ) : Type 0 where
+  pub as-many : length after ≡ length buffer
+  pub before : take at after ≡ take at buffer
+  pub behind : drop (at + bytes) after ≡ drop (at + bytes) buffer
+
+-- ---- bytes placed in a buffer
+
+module _ (buffer : List ℕ) (at : ℕ) (bytes : List ℕ) (room : at + length bytes ≤ length buffer) where
+  front : length (take at buffer) ≡ at
+  front = length-take-le at buffer (omega arith)
+
+  front-and-bytes : length (take at buffer ++ bytes) ≡ at + length bytes
+  front-and-bytes = length-append (take at buffer) bytes ∙ ap (λ (n : ℕ). n + length bytes) front
+
+  pub placed-up-to : take (at + length bytes) (placed buffer at bytes) ≡ take at buffer ++ bytes
+  placed-up-to = take-at (take at buffer ++ bytes) (drop (at + length bytes) buffer) (at + length bytes) front-and-bytes
+
+  pub placed-untouched : Untouched at (length bytes) buffer (placed buffer at bytes)
+  placed-untouched =
+      let end = at + length bytes in
+      let first = take at buffer in
+      let rest = drop end buffer in
+      record {
+        as-many = length-append (first ++ bytes) rest ∙ omega (arith, front-and-bytes, length-drop end buffer);
+        before = ap (take at) (append-assoc first bytes rest) ∙ take-at first (bytes ++ rest) at front;
+        behind = drop-at (first ++ bytes) rest end front-and-bytes;
+      }
+
+-- ---- an accepted write
+
+-- where a refused report's number is the first test's, and no number is given, the report is given and no other test applies
+pub after-report : (n : ℕ) (tests : List (Bool × ℕ)) → firstOf ((not (eqb n 0), n) ∷ tests) ≡ 0 → (n ≡ 0) × (firstOf tests ≡ 0)
+after-report n tests e =
+    by-test (eqb n 0)
+    (λ t. (eqb-true n 0 t, rw t at e))
+    (λ f. let z : n ≡ 0 = rw f at e in absurd (eqb-false n 0 f z))
+
+pub record WriteAccepted (s : Sheet) (justified at : ℕ) (buffer : List ℕ) : Type 0 where
+  pub reports : reported s justified .number ≡ 0
+  pub room : at + sheetSize (s .count) ≤ length buffer
+  pub bytes-are : written s justified (length buffer) at .bytes ≡ sheetSize (s .count)
+  pub into : writtenInto s justified at buffer ≡ placed buffer at (sheetBytes s justified)
+
+pub write-accepted : (s : Sheet) (justified at : ℕ) (buffer : List ℕ) → written s justified (length buffer) at .number ≡ 0
+    → WriteAccepted s justified at buffer
+unfolding writeNumber written writtenInto
+write-accepted s justified at buffer e =
+    let short = ltb (length buffer - at) (sheetSize (s .count)) in
+    let r = after-report (reported s justified .number) ((short, 15) ∷ []) e in
+    let fits : sheetSize (s .count) ≤ length buffer - at = ltb-false _ _ (passed short 15 [] (r .1) (λ z. omega arith) .0) in
+    let zero = eq-eqb (writeNumber s justified (length buffer) at) 0 e in
+    record {
+      reports = r .0;
+      room = omega arith;
+      bytes-are = rw zero;
+      into = rw zero;
+    }
+
+-- a write puts exactly these bytes at a place of a buffer
+pub record Puts (bytes : List ℕ) (s : Sheet) (justified at : ℕ) (buffer : List ℕ) : Type 0 where
+  pub accepted : written s justified (length buffer) at .number ≡ 0
+  pub as-many : written s justified (length buffer) at .bytes ≡ length bytes
+  pub into : writtenInto s justified at buffer ≡ placed buffer at bytes
+
+-- one whose report is given puts the bytes of its sheet, wherever there is room
+pub puts-its-bytes : (s : Sheet) (justified at : ℕ) (buffer : List ℕ) → reported s justified .number ≡ 0 → s .count ≤ length (s .spaces)
+    → at + length (sheetBytes s justified) ≤ length buffer → Puts (sheetBytes s justified) s justified at buffer
+unfolding written
+puts-its-bytes s justified at buffer reports places h =
+    let size = length-sheet s justified places in
+    let e = room s justified at buffer reports (omega (arith, size)) in
+    let a = write-accepted s justified at buffer e in
+    record { accepted = e; as-many = a .bytes-are ∙ sym size; into = a .into }
+
+-- ---- every write
+
+-- refused, it touches nothing; accepted, only what it answers
+pub others-untouched : (s : Sheet) (justified at : ℕ) (buffer : List ℕ) → s .count ≤ length (s .spaces)
+    → Untouched at (written s justified (length buffer) at .bytes) buffer (writtenInto s justified at buffer)
+unfolding written writtenInto
+others-untouched s justified at buffer places =
+    by-test (eqb (writeNumber s justified (length buffer) at) 0)
+    (λ t.
+    let a = write-accepted s justified at buffer (eqb-true _ 0 t) in
+    let size = length-sheet s justified places in
+    rw (t, ← size) (placed-untouched buffer at (sheetBytes s justified) (omega (arith, a .room, size))))
+    (λ f. rw f (record { as-many = refl; before = refl; behind = refl }))

@@ -1,0 +1,207 @@
+-- Written, then read: a sheet that resumes comes back from its bytes, whatever stands before them. Stands on Fitting, Writing.
+use Prim.Native.Nat.{ℕ, _+_, _-_, _≤_}
+use mathlib.Core.Path.{_≡_, refl, sym, ap, _∙_}
+use mathlib.Core.Bool.{true, false}
+use mathlib.Core.List.{List, [], _∷_, _++_, map, append-assoc, List·Memᴰ·head, List·Memᴰ·tail}
+use native.Mathlib.Omega.{arith}
+use borrow.Author.Tests.{le-ltb, eq-eqb}
+use lib.Dec.{ltb}
+use lib.ListN.{length, take, drop, getD, length-append}
+use lib.Seq.{length-take-le, drop-at, drop-append-seam}
+use Rattle.spaces.specs.Gross.{gross, net}
+use Rattle.spaces.specs.declared.space.Space.{Space}
+use Rattle.spaces_laws.proofs.Tests.{and-holds-of}
+use Rattle.spaces_laws.proofs.Lists.{_∈_}
+use Rattle.sheet.specs.Sheet.{standing, usable}
+use Rattle.sheet.specs.Calls.{counted, reported}
+use Rattle.sheet.specs.Resume.{firstRefused}
+use Rattle.sheet.specs.declared.sheet.Sheet.{Sheet}
+use Rattle.sheet.proofs.laws.Sheet.{usable-counts}
+use Rattle.sheet.proofs.laws.Report.{Given, given}
+use Rattle.dayfile.specs.Fields.{fitting}
+use Rattle.dayfile.specs.Record.{numbersOf, records, recordsIn, spacesOf}
+use Rattle.dayfile.specs.Trailer.{trailerFields, trailerSize, sheetSize, numbersOfTrailer, trailerNumbers, trailerRight, trailerOf, trailerBytes}
+use Rattle.dayfile.specs.Writing.{trailerFor, sheetBytes, written, writtenInto}
+use Rattle.dayfile.specs.Reading.{lastNumbers, lastTrailer, startOf, lastRecords, noSheet, firstFaulty, faultIn, sheetIn, acceptedReading, readOf}
+use Rattle.dayfile.specs.Handed.{readAs, eachReadAs}
+use Rattle.dayfile.specs.declared.reading.Reading.{Reading}
+use Rattle.dayfile.proofs.laws.Writing.{length-trailer, length-sheet}
+use Rattle.dayfile.proofs.laws.Reading.{by-distance, judged, read-judged, same-figures}
+use Rattle.dayfile_laws.proofs.Fields.{InFields, fitting-of}
+use Rattle.dayfile_laws.proofs.Records.{Fits, records-read, spaces-of-numbers, trailer-read}
+use Rattle.dayfile_laws.proofs.Resumable.{Resumable, Writable, sheetWith, standing-same, length-same, is-usable, same-report, none-open, RecordsAccepted, records-accepted}
+use Rattle.dayfile_laws.proofs.Fitting.{in-range, each-fits, gross-at-most, net-at-most}
+use Rattle.dayfile_laws.proofs.Writing.{placed-up-to, write-accepted}
+
+-- the last n of some bytes
+last-part : (before bytes : List ℕ) (n : ℕ) → length bytes ≡ n → drop (length (before ++ bytes) - n) (before ++ bytes) ≡ bytes
+last-part before bytes n e = drop-at before bytes (length (before ++ bytes) - n) (omega (arith, length-append before bytes))
+
+-- records that fit are handed to the sheet as they are
+each-read-as : (xs : List Space) → ((x : Space) → x ∈ xs → Fits x) → eachReadAs (map numbersOf xs) ≡ xs
+unfolding readAs
+each-read-as [] fit = refl
+each-read-as (x ∷ xs) fit = rw (fit x (List·Memᴰ·head refl), each-read-as xs (λ y m. fit y (List·Memᴰ·tail m)))
+
+-- so none is faulty that `resume` accepts
+none-faulty : (L : ℕ) (xs : List Space) → ((x : Space) → x ∈ xs → Fits x) → firstRefused L [] xs .number ≡ 0
+    → firstFaulty L [] (map numbersOf xs) ≡ 0
+none-faulty L xs fit none = judged L [] (map numbersOf xs) .none-faulty (rw (each-read-as xs fit) none)
+
+-- ---- the sheet as it is read
+
+-- open, with the same spaces and tonnage length, and no open changes
+abbrev pub asRead : Sheet → Sheet
+asRead s = sheetWith (s .length) (standing s)
+
+module _ (s : Sheet) (justified : ℕ) (w : Writable s justified) where
+  report-given : Given s justified (reported s justified)
+  report-given = given s justified (reported s justified) refl (w .reports)
+
+  few : s .count ≤ 200
+  few = usable-counts s (report-given .is-usable) .places
+
+  taken : RecordsAccepted (s .length) (standing s)
+  taken = records-accepted (s .length) (standing s) (w .resumable .resumes)
+
+  pub has-places : s .count ≤ length (s .spaces)
+  has-places = omega (arith, few, w .resumable .places)
+
+  length-standing : length (standing s) ≡ s .count
+  length-standing = length-take-le (s .count) (s .spaces) has-places
+
+  pub at-most-200 : length (standing s) ≤ 200
+  at-most-200 = omega (arith, length-standing, few)
+
+  pub length-bytes : length (sheetBytes s justified) ≡ sheetSize (s .count)
+  length-bytes = length-sheet s justified has-places
+
+  trailer-fits : fitting trailerFields (numbersOfTrailer (trailerFor s justified)) ≡ true
+  trailer-fits =
+      let l = in-range _ (s .length) (taken .length-in-range) in
+      let facts : InFields trailerFields (numbersOfTrailer (trailerFor s justified)) =
+      omega (arith, few, report-given .marked, l .0, l .1, gross-at-most taken, net-at-most taken) in
+      fitting-of trailerFields (numbersOfTrailer (trailerFor s justified)) facts
+
+  trailer-right : trailerRight (numbersOfTrailer (trailerFor s justified)) ≡ true
+  unfolding trailerRight
+  trailer-right = and-holds-of _ _ trailer-fits (eq-eqb (sheetSize (s .count)) _ refl)
+
+  -- the sheet read gives the same report
+  reports-again : reported (asRead s) justified .number ≡ 0
+  reports-again =
+      same-report (asRead s) s justified (is-usable (s .length) (standing s) at-most-200) (report-given .is-usable)
+      (standing-same (s .length) (standing s))
+      (length-same (s .length) (standing s))
+      ∙ w .reports
+
+  module _ (pre : List ℕ) where
+    abbrev file : List ℕ
+    file = pre ++ sheetBytes s justified
+
+    length-file : length file ≡ length pre + sheetSize (s .count)
+    length-file = length-append pre (sheetBytes s justified) ∙ ap (λ (n : ℕ). length pre + n) length-bytes
+
+    numbers-at-end : lastNumbers file ≡ numbersOfTrailer (trailerFor s justified)
+    unfolding sheetBytes
+    numbers-at-end =
+        let xs = records (standing s) in
+        let t = trailerBytes (trailerFor s justified) in
+        ap lastNumbers (sym (append-assoc pre xs t))
+        ∙ ap trailerNumbers (last-part (pre ++ xs) t trailerSize (length-trailer (trailerFor s justified)))
+        ∙ trailer-read s justified trailer-fits
+
+    trailer-is : lastTrailer file ≡ trailerFor s justified
+    trailer-is = ap trailerOf numbers-at-end
+
+    starts : startOf file ≡ length pre
+    starts = ap (λ t. length file - sheetSize (t .count)) trailer-is ∙ omega (arith, length-file)
+
+    records-are : lastRecords file ≡ map numbersOf (standing s)
+    unfolding sheetBytes
+    records-are =
+        ap (λ t. recordsIn (t .count) (drop (startOf file) file)) trailer-is
+        ∙ ap (λ (n : ℕ). recordsIn (s .count) (drop n file)) starts
+        ∙ ap (λ (bytes : List ℕ). recordsIn (s .count) bytes) (drop-append-seam pre (sheetBytes s justified))
+        ∙ ap (λ (n : ℕ). recordsIn n (sheetBytes s justified)) (sym length-standing)
+        ∙ records-read (standing s) (trailerBytes (trailerFor s justified)) (each-fits taken)
+
+    ends-in-sheet : noSheet file ≡ false
+    ends-in-sheet =
+        let right : trailerRight (lastNumbers file) ≡ true = ap trailerRight numbers-at-end ∙ trailer-right in
+        by-distance file (omega (arith, length-file)) right
+        ∙ ap (λ (numbers : List ℕ). ltb (length file) (getD numbers 0 0)) numbers-at-end
+        ∙ le-ltb (length file) (sheetSize (s .count)) (omega (arith, length-file))
+
+    no-fault : faultIn file ≡ 0
+    unfolding faultIn
+    no-fault =
+        ap (λ t. firstFaulty (t .«tonnage_length») [] (lastRecords file)) trailer-is
+        ∙ ap (firstFaulty (s .length) []) records-are
+        ∙ none-faulty (s .length) (standing s) (each-fits taken) (taken .none-refused)
+
+    sheet-is : sheetIn file ≡ asRead s
+    unfolding sheetIn
+    sheet-is =
+        ap (λ t. sheetWith (t .«tonnage_length») (spacesOf (lastRecords file))) trailer-is
+        ∙ ap (λ (all : List (List ℕ)). sheetWith (s .length) (spacesOf all)) records-are
+        ∙ ap (sheetWith (s .length)) (spaces-of-numbers (standing s))
+
+    -- what was written is read, with its mark and where it starts
+    pub written-then-read : readOf (pre ++ sheetBytes s justified) ≡ acceptedReading (asRead s) justified (length pre)
+    written-then-read =
+        let t = trailerFor s justified in
+        let same = standing-same (s .length) (standing s) in
+        sym
+        (same-figures (asRead s) t (length pre) reports-again (ap gross same) (ap net same)
+        ∙ read-judged file (asRead s) t (length pre) (sym sheet-is) (sym trailer-is) (sym starts) ends-in-sheet no-fault)
+
+-- ---- the same in the paper's words
+
+-- a reading has what was written with a mark from a place on
+pub record ReadBack (s : Sheet) (justified start : ℕ) (r : Reading) : Type 0 where
+  pub accepted : r .number ≡ 0
+  -- the same spaces, in the same order
+  pub same-spaces : standing (r .sheet) ≡ standing s
+  pub same-length : r .sheet .length ≡ s .length
+  pub same-mark : r .justified ≡ justified
+  -- "The sheet read is open, with no open changes."
+  pub is-open : usable (r .sheet) ≡ true
+  pub none-undoable : counted (r .sheet) .undoable ≡ 0
+  pub none-redoable : counted (r .sheet) .redoable ≡ 0
+  -- "where the sheet starts"
+  pub starts : r .start ≡ start
+
+pub read-back : (s : Sheet) (justified : ℕ) → Writable s justified → (pre : List ℕ)
+    → ReadBack s justified (length pre) (readOf (pre ++ sheetBytes s justified))
+read-back s justified w pre =
+    let L = s .length in
+    let xs = standing s in
+    rw (written-then-read s justified w pre)
+    (record {
+      accepted = refl;
+      same-spaces = standing-same L xs;
+      same-length = length-same L xs;
+      same-mark = refl;
+      is-open = is-usable L xs (at-most-200 s justified w);
+      none-undoable = none-open L xs (at-most-200 s justified w) .0;
+      none-redoable = none-open L xs (at-most-200 s justified w) .1;
+      starts = refl;
+    })
+
+-- ---- in any buffer
+
+-- what an accepted write leaves up to its end is read, and starts at the named place
+pub written-anywhere : (s : Sheet) (justified at : ℕ) (buffer : List ℕ) → Resumable s → written s justified (length buffer) at .number ≡ 0
+    → readOf (take (at + written s justified (length buffer) at .bytes) (writtenInto s justified at buffer)) ≡ acceptedReading (asRead s) justified at
+written-anywhere s justified at buffer resumable e =
+    let a = write-accepted s justified at buffer e in
+    let w : Writable s justified = record { resumable = resumable; reports = a .reports } in
+    let size : length (sheetBytes s justified) ≡ sheetSize (s .count) = length-bytes s justified w in
+    let room : at + length (sheetBytes s justified) ≤ length buffer = omega (arith, a .room) in
+    ap readOf
+    (ap (λ (n : ℕ). take (at + n) (writtenInto s justified at buffer)) (a .bytes-are ∙ sym size)
+    ∙ ap (take (at + length (sheetBytes s justified))) (a .into)
+    ∙ placed-up-to buffer at (sheetBytes s justified) room)
+    ∙ written-then-read s justified w (take at buffer)
+    ∙ ap (acceptedReading (asRead s) justified) (length-take-le at buffer (omega (arith, a .room)))
