@@ -15,7 +15,7 @@ from math import gcd
 from random import Random
 from typing import Callable, Iterator, NamedTuple, Sequence
 
-from reference import measure as m
+from reference import command_line, measure as m
 from reference.measure import B, H, R, S, U
 
 GREATEST_KIND = 255
@@ -604,16 +604,18 @@ def script() -> str:
     return "".join(line + "\n" for section in SECTIONS for line in section(rng))
 
 
+def asked_for(arguments: list[str]) -> str | None:
+    """The script, or the answers to the script on standard input."""
+    if arguments == ["script"]:
+        return script()
+    if arguments == ["answers"]:
+        return answers(sys.stdin.buffer.read().decode("ascii"))
+    return None
+
+
 def main() -> int:
-    """Prints the script, or the answers to the script on standard input."""
-    if sys.argv[1:] == ["script"]:
-        sys.stdout.write(script())
-    elif sys.argv[1:] == ["answers"]:
-        sys.stdout.write(answers(sys.stdin.buffer.read().decode("ascii")))
-    else:
-        print("usage: python3 -m reference.figures script | answers", file=sys.stderr)
-        return 2
-    return 0
+    """Prints what the arguments ask for."""
+    return command_line.run("reference.figures script | answers", asked_for)
 
 
 if __name__ == "__main__":

@@ -12,11 +12,11 @@ from itertools import combinations, islice, product
 from random import Random
 from typing import Callable, Iterator, Sequence
 
-from reference import figures, measure as m, sheet as s
+from reference import command_line, dayfile, figures, files, measure as m, sheet as s
 from reference.figures import one_of
 from reference.measure import B, H, R, S, U
 from reference.sheet import BALLAST, DEDUCTED, EXEMPT, PLAIN, Sheet
-from reference.survey import MOST_NUMBERS, Session
+from reference.survey import GREATEST_SIZE, MOST_DIGITS, MOST_NUMBERS, Session, in_hex
 
 Lines = Iterator[str]
 Section = Callable[[Random, Session], Lines]
@@ -82,6 +82,16 @@ def withdraw(id: int) -> str:
     return call("withdraw", id)
 
 
+def write(justified: int, at: int, size: int) -> str:
+    """The line of a write."""
+    return call("write", justified, at, size)
+
+
+def read(file: bytes) -> str:
+    """The line of a read."""
+    return f"read {in_hex(file)}"
+
+
 # Sheets that sections begin with
 
 def a_thousand() -> Lines:
@@ -104,6 +114,27 @@ def chain(outer: int, first: int, levels: int, tonnage: int) -> Lines:
     """Rooms of one tonnage, each inside the one before, with ids from the first on; the outermost is inside `outer`."""
     yield room(first, outer, tonnage)
     yield from (room(id, id - 1, tonnage) for id in range(first + 1, first + levels))
+
+
+def conditions() -> Iterator[tuple[str, ...]]:
+    """Lines that leave a sheet in every condition of a report: not open, short, with ballast over, and in order."""
+    half = divided(1, U, 1200, 600, 1200, 500)
+    yield ("open 99",)
+    yield ("open 1200",)
+    yield ("open 1200", half)
+    yield ("open 1200", half, room(4, 1, 300, BALLAST))
+    yield (*a_thousand(), room(4, 1, 301, BALLAST))
+    yield tuple(a_thousand())
+
+
+def whole_sheet() -> Lines:
+    """The paper's whole sheet."""
+    yield "open 4800"
+    yield divided(1, U, 4800, 4800, 1200, 2000)
+    yield divided(2, S, 4800, 1600, 800, 1000)
+    yield enter(3, 1, R, BALLAST, 1000, [400], [1000])
+    yield enter(4, 2, R, DEDUCTED, 800, [800], [500])
+    yield enter(5, 0, H, PLAIN, 500, [500], [400])
 
 
 def tried(session: Session, line: str) -> Lines:
@@ -143,12 +174,7 @@ def openings(rng: Random, session: Session) -> Lines:
 def paper_sheet(rng: Random, session: Session) -> Lines:
     """The paper's whole sheet."""
     yield "# The paper's whole sheet"
-    yield "open 4800"
-    yield divided(1, U, 4800, 4800, 1200, 2000)
-    yield divided(2, S, 4800, 1600, 800, 1000)
-    yield enter(3, 1, R, BALLAST, 1000, [400], [1000])
-    yield enter(4, 2, R, DEDUCTED, 800, [800], [500])
-    yield enter(5, 0, H, PLAIN, 500, [500], [400])
+    yield from whole_sheet()
     yield from LOOK_AND_REPORT
     yield from (withdraw(3), "report 0", "undo", withdraw(5), "report 0", "undo", *LOOK_AND_REPORT)
 
@@ -192,15 +218,9 @@ def ballast(rng: Random, session: Session) -> Lines:
 def reports(rng: Random, session: Session) -> Lines:
     """Every justified mark on a sheet in every condition: not open, short, with ballast over, and in order."""
     yield "# Justified marks"
-    marks = (0, 1, 2, 3, 255, 256, 257, 2**64 - 1)
-    beginnings = (
-        ("open 99",), ("open 1200",), ("open 1200", divided(1, U, 1200, 600, 1200, 500)),
-        ("open 1200", divided(1, U, 1200, 600, 1200, 500), room(4, 1, 300, BALLAST)),
-        (*a_thousand(), room(4, 1, 301, BALLAST)), tuple(a_thousand()),
-    )
-    for beginning in beginnings:
-        yield from beginning
-        yield from (f"report {one}" for one in marks)
+    for condition in conditions():
+        yield from condition
+        yield from (f"report {one}" for one in (0, 1, 2, 3, 255, 256, 257, 2**64 - 1))
         yield from LOOK
 
 
@@ -489,6 +509,112 @@ def not_plain(rng: Random, session: Session) -> Lines:
         yield from (mark(30, EXEMPT), room(31, 30, 0, BALLAST), room(31, depth, 0, BALLAST), *LOOK)
 
 
+# Sections of files
+
+def writes(rng: Random, session: Session) -> Lines:
+    """Every justified mark on a sheet in every condition, into buffers with room, with too little and with none."""
+    yield "# Writing"
+    for condition in conditions():
+        yield from condition
+        size = dayfile.distance(len(session.sheet.spaces))
+        for justified in (0, 1, 2, 255, 257, 2**64 - 1):
+            yield from (write(justified, 0, size), write(justified, 2, size + 1), write(justified, 1, 0))
+        yield from LOOK_AND_REPORT
+    yield "# Changes and undone changes are as they were after a write"
+    yield from (*a_thousand(), hatchway(4, 20), mark(3, EXEMPT), "undo", write(0, 0, 92), write(0, 0, 91), "counts")
+    yield from ("redo", write(0, 0, 92), "redo", "undo", "undo", write(1, 3, 79), write(2, 0, 0), "redo", *LOOK)
+
+
+def places_in_a_buffer(rng: Random, session: Session) -> Lines:
+    """Room that is just enough and a byte less, at places from the beginning to far behind the end; every filling."""
+    yield "# Places in a buffer"
+    yield from a_thousand()
+    size = dayfile.distance(len(session.sheet.spaces))
+    for at in (0, 1, 2, 3, 16, 27, 28, 44, 100):
+        yield from (write(0, at, at + size + more) for more in (-1, 0, 1, 50))
+        yield from (write(1, at, at + 1), write(1, at, at), write(1, at + 1, at))
+    far = (2**63 - 1, 2**63, 2**64 - 1)
+    for at in (size - 1, size, size + 1, 2**16 - 1, 2**16, 2**32 - size, 2**32 - 1, 2**32, 2**32 + 1, *far):
+        yield from (write(0, at, buffer) for buffer in (0, size, 2 * size))
+    for short in range(-2, 2):  # the end of what is written would be about 2^64
+        yield from (write(0, 2**64 - size + short, buffer) for buffer in (0, 1, size))
+    yield "# Fillings"
+    for fill in (0, 1, 127, 128, 254, 255):
+        yield from (call("writef", 0, 0, size, fill), call("writef", 0, 5, size + 9, fill))
+        yield from (call("writef", 1, 6, size + 5, fill), call("writef", 2, 5, 3, fill), call("writef", 0, 0, 0, fill))
+    yield from (call("writef", justified, 2, 90, 85) for justified in BEYOND_8)
+    yield from (call("writef", 0, at, 80, 85) for at in (4, 5, 80, 81, 2**32 + 4, *far))
+    for condition in conditions():
+        yield from (*condition, call("writef", 0, 1, 110, 170), call("writef", 1, 1, 110, 170))
+        yield call("writef", 0, 100, 110, 170)
+    yield "# The largest buffer"
+    yield call("writef", 1, GREATEST_SIZE - size, GREATEST_SIZE, 165)
+
+
+def read_and_looked_at(session: Session, file: bytes) -> Lines:
+    """A read and what it leaves: no open changes, and the bytes themselves where it is written again."""
+    yield from (read(file), *LOOK, "undo", "redo", "report 0")
+    if session.sheet.is_open:
+        _, _, justified, start, _ = dayfile.read(file)
+        yield write(justified, 0, len(file) - start)
+
+
+def written_and_read(rng: Random, session: Session) -> Lines:
+    """What a write gives is read back, each sheet alone and all of them as a day's file, from its end."""
+    yield "# Written and read back"
+    day = b""
+    for lines, justified in (
+        (whole_sheet(), 0), (a_thousand(), 1), (twenty_thousand(), 0), ((*a_thousand(), room(4, 1, 301, BALLAST)), 1),
+        ((*a_thousand(), *chain(1, 11, 7, 40), mark(14, DEDUCTED), withdraw(3), hatchway(9_999, 70)), 0),
+        (("open 100", under_deck(9, 100, 7)), 1),
+    ):
+        yield from lines
+        file = dayfile.bytes_of(session.sheet, justified)
+        yield call("writef", justified, len(day), len(day) + len(file) + 2, 255)
+        yield from read_and_looked_at(session, file)
+        day += file
+    yield "# A day's file, from its end"
+    while day:
+        yield from read_and_looked_at(session, day)
+        day = day[:dayfile.read(day)[3]]
+    yield "# 200 spaces"
+    yield from (*a_thousand(), *(room(id, 1 + id % 3, id % 2) for id in range(9_999, 9_999 - s.PLACES + 3, -1)))
+    file = dayfile.bytes_of(session.sheet, 0)
+    yield from (write(0, 0, len(file) - 1), write(0, 0, len(file)), read(file), *LOOK, room(4, 1, 1), withdraw(9_990))
+    yield from (room(4, 1, 1), room(5, 1, 1), "undo", "undo", "undo", "counts", write(1, 0, len(file)))
+
+
+def changes_after_a_read(rng: Random, session: Session) -> Lines:
+    """A sheet that was read has no open changes, and changes like any other; a refused read leaves one not open."""
+    yield "# Changes after a read"
+    yield from (*a_thousand(), hatchway(4, 20), mark(3, EXEMPT), "undo", "counts")
+    file = dayfile.bytes_of(session.sheet, 0)
+    yield from (read(file), "counts", "undo", "redo", hatchway(4, 1), withdraw(1), room(5, 1, 360), room(6, 1, 1))
+    yield from (withdraw(1), mark(5, EXEMPT), room(6, 5, 1, EXEMPT), withdraw(4), "spaces", *["undo"] * 4, *LOOK)
+    yield from ("redo", "redo", "counts", read(file), "counts", "redo", *LOOK_AND_REPORT)
+    yield from (under_deck(7, 100, 3), withdraw(2), under_deck(7, 601, 3), under_deck(7, 600, 3), "report 0", "spaces")
+    yield "# A refused read"
+    for damaged in (b"", file[1:], file[:-1], file + b"\0", file[16:], files.of_the_paper(net=1)):
+        yield from (*a_thousand(), hatchway(4, 20), "undo", read(damaged), *LOOK_AND_REPORT, "undo", "redo")
+        yield from (hatchway(4, 20), withdraw(1), mark(1, 0), write(0, 0, 30), write(2, 9, 0))
+    yield "# Lines that are no calls leave the sheet that was read"
+    yield from (read(file), "read", "read 0", "read 0x", "write 0 0 65537", "writef 0 0 9 256", *LOOK_AND_REPORT)
+
+
+def generated_files(rng: Random, session: Session) -> Lines:
+    """Files in order and damaged: the small ones made for a number, and some of the larger and of those by chance."""
+    yield "# Generated files"
+    for name, file, made_for in files.standard():
+        one_in = 1 if len(file) <= SMALL_FILE else 8 if len(file) <= LARGER_FILE else 60
+        if rng.randrange(one_in if made_for else 12 * one_in) == 0:
+            yield from (f"# {name}", read(file))
+            if session.sheet.is_open:
+                yield from ("spaces", *["undo", "redo", write(1, 0, 44)] * (rng.randrange(8) == 0))
+    yield "# The longest file"
+    whole = files.of_the_paper()
+    yield from (read(rng.randbytes(GREATEST_SIZE - len(whole)) + whole), *LOOK_AND_REPORT)
+
+
 # Lines that are no calls, for each remark
 MALFORMED = (
     "", "#", "# open 1200", " ", " undo", "Undo", "UNDO", "undo\t", "undo\r", "open\t1200", "close", "reports 0", "0",
@@ -516,6 +642,18 @@ MALFORMED = (
     "enter 9 0 4 0 10 x,18446744073709551616 5",
     "enter 9 0 4 0 10 x " + word([5] * (MOST_NUMBERS + 1)), "enter 9 0 4 0 10 5" + ",x" * MOST_NUMBERS + " 5",
     "enter 9 0 4 0 10 5 " + "," * MOST_NUMBERS, "enter 9 0 4 0 10 5 " + "," * (MOST_NUMBERS - 1),
+    # the calls on files
+    "write", "write 0 0", "write 0 0 0 0", "write 0 0 0 ", "writef 0 0 0", "writef 0 0 0 0 0", "read", "read 00 00",
+    "read 00 ", "write x 0 0", "write 0 x 0", "write 0 - 0", "write 0 0 x", "write 0 0 ", "write 0 0 -", "write 0 -1 0",
+    "write 0 0 0x4", "writef x 0 0 0", "writef 0 x 0 0", "writef 0 0 x 0", "writef 0 0 0 x", "writef 0 0 0 ff",
+    "writef 0 0 0 -", "write 18446744073709551616 0 0", "write 0 18446744073709551616 0",
+    "write 0 0 18446744073709551616", "writef 18446744073709551616 0 0 0", "writef 0 18446744073709551616 0 0",
+    "writef 0 0 18446744073709551616 0", "writef 0 0 0 18446744073709551616", "write 0 0 65537", "write 9 9 65537",
+    "write 0 0 4294967296", "write 0 0 18446744073709551615", "writef 0 0 65537 0", "writef 0 0 0 256",
+    "writef 0 0 0 257", "writef 0 0 0 18446744073709551615", "writef 0 0 65537 256", "writef 0 0 65537 x",
+    "writef 0 0 x 256", "writef 0 x 65537 256", "writef 0 0 4 00256", "write 0 0 0065537", "read ", "read 0",
+    "read 000", "read 0g", "read g0", "read 0A", "read FF", "read 0x", "read 0x00", "read --", "read -0", "read 0-",
+    "read ,", "read 00,00", "read +0", "read 0.", "read 00\r", "read 0\t", "read 0:", "read `0", "read /0", "read @a",
 )
 
 
@@ -524,6 +662,7 @@ def malformed(rng: Random, session: Session) -> Lines:
     yield "# Lines that are no calls"
     yield from ("open 99", *MALFORMED, *LOOK)
     yield from (*a_thousand(), hatchway(5, 5), "undo", *MALFORMED, *LOOK_AND_REPORT, "redo", *LOOK)
+    yield from ("read " + "x" * (MOST_DIGITS + 1), *LOOK)
 
 
 # Calls at random
@@ -678,6 +817,20 @@ def reporting(rng: Random, sheet: Sheet, most: int) -> Lines:
         yield f"report {one_of(rng, (2, *BEYOND_8))}"
 
 
+def writing(rng: Random, sheet: Sheet, most: int) -> Lines:
+    """A write into a buffer of about the size that it needs, where the sheet is small."""
+    if len(sheet.spaces) <= FEW_SPACES:
+        at, more = one_of(rng, (0, 0, 1, 5, 29)), one_of(rng, (0, 0, 1, 7, -1))
+        size = at + dayfile.distance(len(sheet.spaces)) + more
+        yield call("writef", one_of(rng, (0, 0, 1, 2)), at, size, one_of(rng, (0, 255)))
+
+
+def rereading(rng: Random, sheet: Sheet, most: int) -> Lines:
+    """A small sheet that can be written is read back, which ends its open changes."""
+    if len(sheet.spaces) <= FEW_SPACES and not s.numbers_of_report(sheet, s.JUSTIFIED):
+        yield from (read(dayfile.bytes_of(sheet, s.JUSTIFIED)), *LOOK)
+
+
 def looking(rng: Random, sheet: Sheet, most: int) -> Lines:
     """The counts, and the spaces where they aren't many."""
     yield "counts"
@@ -693,7 +846,7 @@ def saying_nothing(rng: Random, sheet: Sheet, most: int) -> Lines:
 
 MOVES: tuple[Callable[[Random, Sheet, int], Lines], ...] = (
     (entering,) * 18 + (withdrawing,) * 3 + (marking,) * 6 + (undoing,) * 2 + (redoing,) + (reporting,) * 3
-    + (looking,) * 4 + (saying_nothing,)
+    + (writing,) + (rereading,) + (looking,) * 4 + (saying_nothing,)
 )
 BURST = (entering,) * 9 + (marking, looking)
 
@@ -731,12 +884,13 @@ def crowded(rng: Random, session: Session) -> Lines:
 SECTIONS: tuple[Section, ...] = (
     not_open, openings, paper_sheet, hatchways, ballast, reports, kinds_by_standings, all_at_once, ranges, levels,
     sums_of_rooms, sums_of_lengths, two_hundred, sixty_four, redo_after, order_of_entry, ids_again, not_plain,
-    malformed, crowded,
+    writes, places_in_a_buffer, written_and_read, changes_after_a_read, generated_files, malformed, crowded,
 )
 SEEDS = range(69_107, 69_117)  # of the walks behind the sections
 CALLS_OF_A_WALK = 150
 MOST_UNSEEN = 10  # lines without a look at what they did
-FEW_SPACES = 30  # so many that they are looked at then
+FEW_SPACES = 30  # so many that they are looked at then, written and read back
+SMALL_FILE, LARGER_FILE = 120, 300  # bytes of a generated file; the larger it is, the fewer of them are read
 
 
 def lines_of(section: Lines, session: Session) -> Lines:
@@ -766,16 +920,19 @@ def standard() -> str:
     return "".join(edges) + "".join(script(seed, CALLS_OF_A_WALK) for seed in SEEDS)
 
 
+def asked_for(arguments: list[str]) -> str | None:
+    """The standard script, or one at random."""
+    if not arguments:
+        return standard()
+    if len(arguments) == 2 and all(argument.isascii() and argument.isdigit() for argument in arguments):
+        seed, calls = map(int, arguments)
+        return script(seed, calls)
+    return None
+
+
 def main() -> int:
-    """Prints the standard script, or one at random."""
-    if not sys.argv[1:]:
-        sys.stdout.write(standard())
-    elif len(sys.argv) == 3 and all(argument.isascii() and argument.isdigit() for argument in sys.argv[1:]):
-        sys.stdout.write(script(int(sys.argv[1]), int(sys.argv[2])))
-    else:
-        print("usage: python3 -m reference.scripts [SEED CALLS]", file=sys.stderr)
-        return 2
-    return 0
+    """Prints what the arguments ask for."""
+    return command_line.run("reference.scripts [SEED CALLS]", asked_for)
 
 
 if __name__ == "__main__":

@@ -15,15 +15,20 @@ then the words behind the call from left to right, each
     ? number too large          a number above 2^64-1 (zeros in front are no matter)
     ? list too long             a list of more than 1,024 numbers, counted by its commas, whatever stands between them;
                                 then each number of a list, from left to right, as above; '-' is the empty list
-Every word is judged so, an enclosing id too that isn't read.
+    ? buffer too large          the size of a buffer, where it is a number, above 65,536
+    ? not a byte                what a buffer is filled with, where it is a number, above 255
+    ? file too long             a file of more than 131,072 characters, whatever they are ('-' is that of no bytes)
+    ? not hex                   a file, not too long, that is empty or has an odd number of characters or one other than
+                                0 to 9 and a to f
+Every word is judged so, an enclosing id too that isn't read. A word on the left goes before one on the right: a buffer
+too large before a filling that is no number.
     ? script too long           the only answer to a script over 1,048,576 bytes, of which no call is made
-    ? not yet                   the calls on files, whatever words they have
 """
 
 import sys
 from typing import Any, Callable
 
-from reference import sheet as s
+from reference import dayfile, sheet as s
 from reference.sheet import Sheet, Space
 
 UNKNOWN_CALL = "? unknown call"
@@ -31,18 +36,26 @@ WRONG_NUMBER_OF_WORDS = "? wrong number of words"
 NOT_A_NUMBER = "? not a number"
 NUMBER_TOO_LARGE = "? number too large"
 LIST_TOO_LONG = "? list too long"
+BUFFER_TOO_LARGE = "? buffer too large"
+NOT_A_BYTE = "? not a byte"
+FILE_TOO_LONG = "? file too long"
+NOT_HEX = "? not hex"
 SCRIPT_TOO_LONG = "? script too long"
-NOT_YET = "? not yet"
 REMARKS = (
-    UNKNOWN_CALL, WRONG_NUMBER_OF_WORDS, NOT_A_NUMBER, NUMBER_TOO_LARGE, LIST_TOO_LONG, SCRIPT_TOO_LONG, NOT_YET
+    UNKNOWN_CALL, WRONG_NUMBER_OF_WORDS, NOT_A_NUMBER, NUMBER_TOO_LARGE, LIST_TOO_LONG, BUFFER_TOO_LARGE, NOT_A_BYTE,
+    FILE_TOO_LONG, NOT_HEX, SCRIPT_TOO_LONG,
 )
 
-MOST_BYTES = 1_048_576
-MOST_NUMBERS = 1_024
+MOST_BYTES = 1_048_576  # of a script
+MOST_NUMBERS = 1_024  # of a list
+GREATEST_SIZE = 65_536  # of a buffer or a file, in bytes
+MOST_DIGITS = 2 * GREATEST_SIZE  # two digits a byte
+HEX_DIGITS = frozenset("0123456789abcdef")
 GREATEST_NUMBER = 2**64 - 1
 GREATEST_ID = 2**16 - 1
 GREATEST_CODE = 2**8 - 1  # of a kind, a standing and a justified mark
 GREATEST_MEASURE = 2**32 - 1
+GREATEST_BYTE = 2**8 - 1
 
 
 class NoCall(Exception):
@@ -86,6 +99,33 @@ def measures(word: str) -> list[int]:
     return [a_measure(one) for one in words]
 
 
+def a_size(word: str) -> int:
+    """The bytes of a buffer."""
+    size = number(word)
+    if size > GREATEST_SIZE:
+        raise NoCall(BUFFER_TOO_LARGE)
+    return size
+
+
+def a_byte(word: str) -> int:
+    """What each byte of a buffer holds."""
+    byte = number(word)
+    if byte > GREATEST_BYTE:
+        raise NoCall(NOT_A_BYTE)
+    return byte
+
+
+def a_file(word: str) -> bytes:
+    """Two digits a byte, or '-' for none."""
+    if word == "-":
+        return b""
+    if len(word) > MOST_DIGITS:
+        raise NoCall(FILE_TOO_LONG)
+    if not word or len(word) % 2 or not HEX_DIGITS.issuperset(word):
+        raise NoCall(NOT_HEX)
+    return bytes.fromhex(word)
+
+
 # Calls: how the words behind each are read, and what it answers: its number, its values and the sheet after it.
 
 Answer = tuple[Any, ...]
@@ -97,9 +137,25 @@ def of_space(space: Space) -> str:
     return ":".join(map(str, values))
 
 
+def in_hex(file: bytes) -> str:
+    """The word for these bytes."""
+    return file.hex() or "-"
+
+
 def spaces(sheet: Sheet) -> Answer:
     """0 OPEN L COUNT SPACE SPACE ..."""
     return s.ACCEPTED, int(sheet.is_open), sheet.length, len(sheet.spaces), *map(of_space, sheet.spaces), sheet
+
+
+def writef(sheet: Sheet, justified: int, at: int, size: int, fill: int) -> Answer:
+    """N WRITTEN BUFFER, of a buffer with the same byte all through."""
+    refusal, written, buffer, after = dayfile.write(sheet, justified, bytes([fill]) * size, at)
+    return refusal, written, in_hex(buffer), after
+
+
+def write(sheet: Sheet, justified: int, at: int, size: int) -> Answer:
+    """N WRITTEN BUFFER, of a buffer of zeros."""
+    return writef(sheet, justified, at, size, 0)
 
 
 CALLS: dict[str, tuple[tuple[Callable[[str], Any], ...], Callable[..., Answer]]] = {
@@ -111,11 +167,11 @@ CALLS: dict[str, tuple[tuple[Callable[[str], Any], ...], Callable[..., Answer]]]
     "redo": ((), s.redo),
     "counts": ((), s.counts),
     "report": ((a_code,), s.report),
+    "write": ((a_code, number, a_size), write),
+    "writef": ((a_code, number, a_size, a_byte), writef),
+    "read": ((a_file,), lambda sheet, file: dayfile.read(file)),
     "spaces": ((), spaces),
 }
-
-# The calls on files have no rows above yet: this is their place. The rows for them end NOT_YET and this line.
-CALLS_ON_FILES = ("write", "writef", "read")
 
 
 class Session:
@@ -136,8 +192,6 @@ class Session:
     def call(self, words: list[str]) -> str:
         """Makes the call of a line's words; where they are none, NoCall is raised and nothing is changed."""
         name, *behind = words
-        if name in CALLS_ON_FILES:
-            raise NoCall(NOT_YET)
         if name not in CALLS:
             raise NoCall(UNKNOWN_CALL)
         readers, make = CALLS[name]

@@ -11,8 +11,9 @@ from typing import Iterator
 
 HEAD = re.compile(r'^[ \t]*pub[ \t]+(?:extern[ \t]+"C"[ \t]+)?fn[ \t]+(\w+)', re.M)
 CLAUSE = re.compile(r'\s*(requires|ensures)\b[^{]*')
-# What determines an answer: the result, or what a lent buffer holds at the end, equal to a definition.
-EQUALITY = re.compile(r'⌜ \(?(?:r|now \(\S+ \.exit\)) ≡ ')
+# What determines an answer: the result, the bytes of a part that it hands on, or what a lent buffer holds at the end, equal
+# to a definition.
+EQUALITY = re.compile(r'⌜ \(?(?:r|now r|now \(\S+ \.exit\)) ≡ ')
 
 
 def closing(text: str, at: int, pair: str) -> int:

@@ -9,29 +9,32 @@ from pathlib import Path
 
 sys.path.insert(0, '.')
 
-from reference import figures, scripts, survey  # noqa: E402
+from reference import dayfile, figures, files, scripts, survey  # noqa: E402
 
 
 def stored() -> dict[Path, bytes]:
-    """Each stored file, with what the reference prints for it: a program's script and the answers to it."""
-    files = {}
-    for name, script, answers in (
-        ('figures', figures.script(), figures.answers),
-        ('survey', scripts.standard(), survey.answers),
+    """Each stored file: what a program is given, and what the reference prints for it."""
+    script, standard, whole = figures.script(), scripts.standard(), files.of_the_paper()
+    found = {}
+    for name, given, printed in (
+        ('figures', script.encode('ascii'), figures.answers(script)),
+        ('survey', standard.encode('ascii'), survey.answers(standard)),
+        ('sheetlist', whole, dayfile.listing(whole)),
     ):
-        files[Path('crates', name, 'stdin')] = script.encode('ascii')
-        files[Path('crates', name, 'stdout')] = answers(script).encode('ascii')
-    return files
+        found[Path('crates', name, 'stdin')] = given
+        found[Path('crates', name, 'stdout')] = printed.encode('ascii')
+    return found
 
 
 def main() -> int:
-    stale = [path for path, text in stored().items() if not path.exists() or path.read_bytes() != text]
+    made = stored()
+    stale = [path for path, text in made.items() if not path.exists() or path.read_bytes() != text]
     if '--check' in sys.argv:
         for path in stale:
             print(f'{path} is not what the reference prints: run `make stored`')
         return 1 if stale else 0
     for path in stale:
-        path.write_bytes(stored()[path])
+        path.write_bytes(made[path])
         print('wrote', path)
     return 0
 

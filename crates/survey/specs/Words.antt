@@ -1,7 +1,7 @@
 -- Words of a line, and the numbers and lists in them ("Lines" and "Arguments" of the protocol).
 use Prim.Native.Nat.{ℕ, zero, suc, _+_, _*_, _-_, _<_, min}
 use mathlib.Core.Path.{_≡_}
-use mathlib.Core.Bool.{Bool, true, false, cond, _&&_}
+use mathlib.Core.Bool.{Bool, true, false, cond, _&&_, _||_}
 use mathlib.Core.List.{List, [], _∷_}
 use lib.Dec.{leb, eqb}
 use lib.ListN.{length, getD}
@@ -46,12 +46,19 @@ wordAt k line = partAt 32 k line
 
 -- ---- "A number is [0-9]+ with a value from 0 to 2^64-1"
 
-abbrev pub isDigit : ℕ → Bool
-isDigit x = leb 48 x && leb x 57
+abbrev pub isDecimal : ℕ → Bool
+isDecimal x = leb 48 x && leb x 57
 
-abbrev pub allDigits : List ℕ → Bool
-allDigits [] = true
-allDigits (x ∷ xs) = isDigit x && allDigits xs
+abbrev pub isLetter : ℕ → Bool
+isLetter x = leb 97 x && leb x 102
+
+-- a digit 0 to 9, or a to f too, where hex is asked
+abbrev pub isDigit : Bool → ℕ → Bool
+isDigit hex x = cond hex (isDecimal x || isLetter x) (isDecimal x)
+
+abbrev pub allDigits : Bool → List ℕ → Bool
+allDigits hex [] = true
+allDigits hex (x ∷ xs) = isDigit hex x && allDigits hex xs
 
 -- the value of digits behind others whose value is v
 abbrev pub valueBehind : ℕ → List ℕ → ℕ
@@ -65,7 +72,7 @@ held v = cond (leb v 18446744073709551615) (Value v) TooLarge
 -- what a word is as a number: judged as digits first, whatever their value
 abbrev pub numberOf : List ℕ → Number
 numberOf [] = NotANumber
-numberOf (x ∷ xs) = cond (allDigits (x ∷ xs)) (held (valueBehind 0 (x ∷ xs))) NotANumber
+numberOf (x ∷ xs) = cond (allDigits false (x ∷ xs)) (held (valueBehind 0 (x ∷ xs))) NotANumber
 
 -- its value; 0 where it is none
 abbrev pub valueIn : Number → ℕ
@@ -82,6 +89,10 @@ codeOf word = min (valueIn (numberOf word)) 255
 
 abbrev pub measureOf : List ℕ → ℕ
 measureOf word = min (valueIn (numberOf word)) 4294967295
+
+-- "SIZE is at most 65,536"
+abbrev pub sizeOf : List ℕ → ℕ
+sizeOf word = min (valueIn (numberOf word)) 65536
 
 -- ---- "A list is numbers joined by ',', or '-' for the empty list"
 

@@ -1,12 +1,19 @@
 // Answer lines. The first number of each is the paper's number of refusal, 0 for accepted; a line that is no call is
 // answered by a remark. What a call handed back is answered, and its sheet handed on.
 use crate::calls::Remark;
+use crate::hex;
+use dayfile::Reading;
+use dayfile::Written;
 use libc::STDOUT_FILENO;
 use sheet::Changed;
 use sheet::Counted;
 use sheet::Reported;
 use sheet::Sheet;
 use spaces::space::Space;
+ghost use Prim.Native.Nat.{_+_, _<_, _≤_};
+ghost use lib.ListN.{length};
+
+const BYTES_AT_A_TIME: usize = 2048;
 
 pub fn remark(remark: Remark) {
     match remark {
@@ -15,8 +22,11 @@ pub fn remark(remark: Remark) {
         Remark::NotANumber => print(b"? not a number\n"),
         Remark::NumberTooLarge => print(b"? number too large\n"),
         Remark::ListTooLong => print(b"? list too long\n"),
+        Remark::BufferTooLarge => print(b"? buffer too large\n"),
+        Remark::NotAByte => print(b"? not a byte\n"),
+        Remark::FileTooLong => print(b"? file too long\n"),
+        Remark::NotHex => print(b"? not hex\n"),
         Remark::ScriptTooLong => print(b"? script too long\n"),
-        Remark::NotYet => print(b"? not yet\n"),
     }
 }
 
@@ -37,6 +47,24 @@ pub fn reported(reported: Reported) -> Sheet {
     print_number(reported.gross, b" ");
     print_number(reported.net, b"\n");
     reported.sheet
+}
+
+// The bytes written, and the whole buffer after it.
+pub fn written(written: Written, buffer: &[u8]) -> Sheet {
+    print_number(written.number as u64, b" ");
+    print_number(written.bytes as u64, b" ");
+    print_bytes(buffer);
+    print(b"\n");
+    written.sheet
+}
+
+// The position, the justified mark and the start.
+pub fn read(reading: Reading) -> Sheet {
+    print_number(reading.number as u64, b" ");
+    print_number(reading.position as u64, b" ");
+    print_number(reading.justified as u64, b" ");
+    print_number(reading.start as u64, b"\n");
+    reading.sheet
 }
 
 // Whether the sheet is open, its tonnage length, how many spaces stand, and each of them.
@@ -68,6 +96,39 @@ fn print_space(space: Space) {
     print_number(space.standing as u64, b":");
     print_number(space.tonnage as u64, b":");
     print_number(space.length as u64, b"");
+}
+
+// Bytes as hex digits, some thousands at a time; `-` where there are none.
+fn print_bytes(bytes: &[u8]) {
+    if bytes.len() == 0 {
+        print(b"-");
+        return;
+    }
+    let mut at = 0;
+    while at < bytes.len() {
+        let end = part_end(at, bytes.len());
+        print_hex(&bytes[at..end]);
+        at = end;
+    }
+}
+
+// Where the part of so many bytes that begins at a place ends.
+fn part_end(at: usize, all: usize) -> usize
+    requires { ⌜ at < all ⌝ }
+    ensures { λ r. ⌜ (at < r) × (r ≤ all) × (r ≤ at + 2048) ⌝ }
+{
+    if BYTES_AT_A_TIME < all - at {
+        return at + BYTES_AT_A_TIME;
+    }
+    all
+}
+
+fn print_hex(bytes: &[u8])
+    requires { ⌜ length (now bytes) ≤ 2048 ⌝ }
+{
+    let mut text = io::buffer();
+    let n = hex::digits(bytes, &mut text);
+    print(&text[..n]);
 }
 
 fn print_number(x: u64, behind: &[u8]) {

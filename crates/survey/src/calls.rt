@@ -1,5 +1,6 @@
 // Which call a line is, and whether its words are what the call asks. A line that is no call gets the first remark that
 // fits: of its first word, of the number of its words, then of the words behind the call from left to right.
+use crate::hex;
 use crate::words;
 use crate::words::Number;
 
@@ -12,6 +13,9 @@ pub enum Call {
     Redo,
     Counts,
     Report,
+    Write,
+    WriteFilled,
+    Read,
     Spaces,
 }
 
@@ -21,8 +25,11 @@ pub enum Remark {
     NotANumber,
     NumberTooLarge,
     ListTooLong,
+    BufferTooLarge,
+    NotAByte,
+    FileTooLong,
+    NotHex,
     ScriptTooLong,
-    NotYet,
 }
 
 // A line by its first word.
@@ -37,9 +44,24 @@ pub enum Judged {
     NoCall(Remark),
 }
 
+// What a word behind a call is to be: a size is that of a buffer, a fill what all its bytes are.
+pub enum Asked {
+    Number,
+    List,
+    Size,
+    Fill,
+    Hex,
+}
+
 const MOST_NUMBERS: usize = 1024;
 
-// The call of a name. Those on files are not made yet, whatever words they have.
+const GREATEST_SIZE: u64 = 65536;
+
+const GREATEST_BYTE: u64 = 255;
+// Two digits a byte.
+const MOST_DIGITS: usize = 131072;
+
+// The call of a name.
 pub fn call_named(name: &[u8]) -> Named {
     if words::same(name, b"counts") {
         return Named::Known(Call::Counts);
@@ -50,16 +72,22 @@ pub fn call_named(name: &[u8]) -> Named {
     if words::same(name, b"spaces") {
         return Named::Known(Call::Spaces);
     }
-    if on_files(name) {
-        return Named::NoCall(Remark::NotYet);
+    if words::same(name, b"write") {
+        return Named::Known(Call::Write);
+    }
+    if words::same(name, b"writef") {
+        return Named::Known(Call::WriteFilled);
     }
     changing(name)
 }
 
-// The call of a name that changes the sheet or opens one.
+// The call of a name that changes the sheet, or answers a new one.
 fn changing(name: &[u8]) -> Named {
     if words::same(name, b"open") {
         return Named::Known(Call::Open);
+    }
+    if words::same(name, b"read") {
+        return Named::Known(Call::Read);
     }
     if words::same(name, b"enter") {
         return Named::Known(Call::Enter);
@@ -79,47 +107,91 @@ fn changing(name: &[u8]) -> Named {
     Named::NoCall(Remark::UnknownCall)
 }
 
-fn on_files(name: &[u8]) -> bool {
-    if words::same(name, b"write") {
-        return true;
-    }
-    if words::same(name, b"writef") {
-        return true;
-    }
-    words::same(name, b"read")
-}
-
-// How many words a call asks behind it, the numbers first, then the lists.
-pub fn judge(line: &[u8], call: Call) -> Judged {
+// How many words a call asks behind it.
+fn words_asked(call: Call) -> usize {
     match call {
-        Call::Undo | Call::Redo | Call::Counts | Call::Spaces => judge_words(line, 0, 0),
-        Call::Open | Call::Withdraw | Call::Report => judge_words(line, 1, 1),
-        Call::Mark => judge_words(line, 2, 2),
-        Call::Enter => judge_words(line, 5, 7),
+        Call::Undo | Call::Redo | Call::Counts | Call::Spaces => 0,
+        Call::Open | Call::Withdraw | Call::Report | Call::Read => 1,
+        Call::Mark => 2,
+        Call::Write => 3,
+        Call::WriteFilled => 4,
+        Call::Enter => 7,
     }
 }
 
-// Of the words behind a call the first `numbers` are to be numbers, the others lists.
-fn judge_words(line: &[u8], numbers: usize, behind: usize) -> Judged {
+// What the word at a place behind a call is to be, from 1.
+fn asked_at(call: Call, place: usize) -> Asked {
+    match call {
+        Call::Read => Asked::Hex,
+        Call::Enter => {
+            if place <= 5 {
+                return Asked::Number;
+            }
+            Asked::List
+        }
+        Call::Write | Call::WriteFilled => asked_of_write(place),
+        _ => Asked::Number,
+    }
+}
+
+fn asked_of_write(place: usize) -> Asked {
+    match place {
+        3 => Asked::Size,
+        4 => Asked::Fill,
+        _ => Asked::Number,
+    }
+}
+
+pub fn judge(line: &[u8], call: Call) -> Judged {
+    let behind = words_asked(call);
     if words::marks(line, b' ') != behind {
         return Judged::NoCall(Remark::WrongNumberOfWords);
     }
     let mut k = 0;
     while k < behind {
-        let judged = judge_word(words::word(line, k + 1), k < numbers);
+        k += 1;
+        let judged = judge_word(words::word(line, k), asked_at(call, k));
         let Judged::Fits = judged else {
             return judged;
         };
-        k += 1;
     }
     Judged::Fits
 }
 
-fn judge_word(word: &[u8], is_number: bool) -> Judged {
-    if is_number {
-        return judge_number(word);
+fn judge_word(word: &[u8], asked: Asked) -> Judged {
+    match asked {
+        Asked::Number => judge_number(word),
+        Asked::List => judge_list(word),
+        Asked::Size => judge_up_to(word, GREATEST_SIZE, Remark::BufferTooLarge),
+        Asked::Fill => judge_up_to(word, GREATEST_BYTE, Remark::NotAByte),
+        Asked::Hex => judge_hex(word),
     }
-    judge_list(word)
+}
+
+// A number, and at most a greatest one.
+fn judge_up_to(word: &[u8], greatest: u64, remark: Remark) -> Judged {
+    let judged = judge_number(word);
+    let Judged::Fits = judged else {
+        return judged;
+    };
+    if greatest < words::value(word) {
+        return Judged::NoCall(remark);
+    }
+    Judged::Fits
+}
+
+// Its length is judged first, whatever its characters.
+fn judge_hex(word: &[u8]) -> Judged {
+    if words::is_empty_list(word) {
+        return Judged::Fits;
+    }
+    if MOST_DIGITS < word.len() {
+        return Judged::NoCall(Remark::FileTooLong);
+    }
+    if hex::is_hex(word) {
+        return Judged::Fits;
+    }
+    Judged::NoCall(Remark::NotHex)
 }
 
 fn judge_number(word: &[u8]) -> Judged {

@@ -3,6 +3,7 @@
 // What it prints is tested, not proved.
 mod answers;
 mod calls;
+mod hex;
 mod words;
 
 use calls::Call;
@@ -36,10 +37,9 @@ fn script_buffer() -> [u8; 1048577]
     [0; 1048577]
 }
 
-// At the start the current sheet is one not open, as a refused opening leaves it.
+// At the start the current sheet is one not open.
 fn answer_lines(text: &[u8]) {
-    let not_open = Sheet::open(0);
-    let mut sheet = not_open.sheet;
+    let mut sheet = Sheet::closed();
     let mut at = 0;
     while at < text.len() {
         let end = words::part_end(text, at, b'\n');
@@ -88,8 +88,31 @@ fn make(sheet: Sheet, line: &[u8], call: Call) -> Sheet {
         Call::Redo => answers::changed(sheet.redo()),
         Call::Counts => answers::counted(sheet.counts()),
         Call::Report => answers::reported(sheet.report(words::code(words::word(line, 1)))),
+        Call::Write => write(sheet, line, 0),
+        Call::WriteFilled => write(sheet, line, words::code(words::word(line, 4))),
+        Call::Read => read(line),
         Call::Spaces => answers::spaces(sheet),
     }
+}
+
+// Writes into a buffer of the size that the line says, whose bytes are all `fill`.
+fn write(sheet: Sheet, line: &[u8], fill: u8) -> Sheet {
+    let justified = words::code(words::word(line, 1));
+    let at = words::value(words::word(line, 2)) as usize;
+    let size = words::size(words::word(line, 3));
+    let mut buffer = [fill; 65536];
+    write_into(sheet, justified, &mut buffer[..size], at)
+}
+
+fn write_into(sheet: Sheet, justified: u8, buffer: &mut [u8], at: usize) -> Sheet {
+    let written = dayfile::write(sheet, justified, buffer, at);
+    answers::written(written, buffer)
+}
+
+fn read(line: &[u8]) -> Sheet {
+    let mut file = io::large_buffer();
+    let n = hex::bytes(words::word(line, 1), &mut file);
+    answers::read(dayfile::read(&file[..n]))
 }
 
 fn mark(sheet: Sheet, line: &[u8]) -> Changed {

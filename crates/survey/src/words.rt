@@ -1,13 +1,13 @@
 // Words of a line, and the numbers and lists in them. A text is cut at a mark: a script at its line ends, a line at its
 // spaces, a list at its commas; two marks side by side have an empty part between them, and so has a mark at an end.
 ghost use mathlib.Core.Path.{_≡_};
-ghost use mathlib.Core.Bool.{true};
+ghost use mathlib.Core.Bool.{true, false};
 ghost use Prim.Native.Nat.{_+_, _≤_};
 ghost use lib.ListN.{length, drop};
 ghost use Rattle.io.specs.Counts.{Counts};
 ghost use Rattle.survey.specs.Words.{first, behind, marksIn, sameText, wordAt};
-ghost use Rattle.survey.specs.Words.{isDigit, allDigits, valueBehind, held, numberOf, valueIn};
-ghost use Rattle.survey.specs.Words.{idOf, codeOf, measureOf, isEmptyList, Laid};
+ghost use Rattle.survey.specs.Words.{isDecimal, isLetter, isDigit, allDigits, valueBehind, held, numberOf, valueIn};
+ghost use Rattle.survey.specs.Words.{idOf, codeOf, measureOf, sizeOf, isEmptyList, Laid};
 
 // A word as a number: one or more digits, zeros in front too, with a value from 0 to 2^64-1.
 pub enum Number {
@@ -101,18 +101,19 @@ pub fn number_in(word: &[u8]) -> Number
     if word.len() == 0 {
         return Number::NotANumber;
     }
-    if !all_digits(word) {
+    if !all_digits(word, false) {
         return Number::NotANumber;
     }
     value_of(word)
 }
 
-fn all_digits(word: &[u8]) -> bool
-    ensures { λ r. ⌜ r ≡ allDigits (now (word .entry)) ⌝ }
+// Digits, of hex or of decimal numbers.
+pub fn all_digits(word: &[u8], hex: bool) -> bool
+    ensures { λ r. ⌜ r ≡ allDigits hex (now (word .entry)) ⌝ }
 {
     let mut i = 0;
     while i < word.len() {
-        if !is_digit(word[i]) {
+        if !is_digit(word[i], hex) {
             return false;
         }
         i += 1;
@@ -120,8 +121,20 @@ fn all_digits(word: &[u8]) -> bool
     true
 }
 
-fn is_digit(byte: u8) -> bool
-    ensures { λ r. ⌜ r ≡ isDigit byte ⌝ }
+fn is_digit(byte: u8, hex: bool) -> bool
+    ensures { λ r. ⌜ r ≡ isDigit hex byte ⌝ }
+{
+    if is_decimal(byte) {
+        return true;
+    }
+    if hex {
+        return is_letter(byte);
+    }
+    false
+}
+
+pub fn is_decimal(byte: u8) -> bool
+    ensures { λ r. ⌜ r ≡ isDecimal byte ⌝ }
 {
     if byte < b'0' {
         return false;
@@ -129,9 +142,19 @@ fn is_digit(byte: u8) -> bool
     byte <= b'9'
 }
 
+// a to f
+pub fn is_letter(byte: u8) -> bool
+    ensures { λ r. ⌜ r ≡ isLetter byte ⌝ }
+{
+    if byte < b'a' {
+        return false;
+    }
+    byte <= b'f'
+}
+
 // The value of digits.
 fn value_of(digits: &[u8]) -> Number
-    requires { ⌜ allDigits (now digits) ≡ true ⌝ }
+    requires { ⌜ allDigits false (now digits) ≡ true ⌝ }
     ensures { λ r. ⌜ r ≡ held (valueBehind 0 (now (digits .entry))) ⌝ }
 {
     let mut value: u64 = 0;
@@ -152,7 +175,7 @@ fn value_of(digits: &[u8]) -> Number
 }
 
 // The number of a word; 0 where it is none.
-fn value(word: &[u8]) -> u64
+pub fn value(word: &[u8]) -> u64
     ensures { λ r. ⌜ r ≡ valueIn (numberOf (now (word .entry))) ⌝ }
 {
     let number = number_in(word);
@@ -193,6 +216,17 @@ pub fn measure(word: &[u8]) -> u32
         return x as u32;
     }
     4294967295
+}
+
+// A number as the size of a buffer, the greatest where it is above that.
+pub fn size(word: &[u8]) -> usize
+    ensures { λ r. ⌜ r ≡ sizeOf (now (word .entry)) ⌝ }
+{
+    let x = value(word);
+    if x < 65536 {
+        return x as usize;
+    }
+    65536
 }
 
 // `-` is the empty list.

@@ -12,8 +12,8 @@ Inv-loop text sheet₀ at₀ sheet at =
 abbrev μ-loop : tie.MeasureT-loop
 μ-loop text sheet₀ at₀ sheet at = length text - at
 
-open-requires : tie.Need-open-requires Inv-loop μ-loop
-open-requires c κs = search needs
+closed-requires : tie.Need-closed-requires Inv-loop μ-loop
+closed-requires c κs = search needs
 
 loop-holds : tie.Need-loop-holds Inv-loop μ-loop
 loop-holds c = search needs
@@ -51,7 +51,7 @@ answer-lines-spec =
     (tie.spec
     Inv-loop
     μ-loop
-    open-requires
+    closed-requires
     loop-holds
     part-end-requires
     sub-answer-line

@@ -5,44 +5,40 @@ use mathlib.Core.Bool.{Bool, true, false, cond, _&&_}
 use mathlib.Core.List.{List, [], _∷_}
 use native.Mathlib.Omega.{arith}
 use borrow.Author.Tests.{le-leb, lt-leb, leb-true}
+use lib.Dec.{leb}
 use lib.ListN.{length, drop, getD, drop-of-length-le}
-use Rattle.survey.specs.Words.{isDigit, allDigits, valueBehind, held, numberOf}
+use Rattle.measure.proofs.laws.Tests.{and-left, and-right}
+use Rattle.survey.specs.Words.{isDecimal, isDigit, allDigits, valueBehind, held, numberOf}
 use Rattle.survey.specs.declared.words.Number.the-variants.{Value, NotANumber, TooLarge}
 use Rattle.survey.proofs.laws.Parts.{ahead}
 
 -- ---- digits
 
-one-and : (a b : Bool) → (a && b) ≡ true → a ≡ true
-one-and true b e = refl
-one-and false b e = e
+module _ (hex : Bool) (xs : List ℕ) (i : ℕ) where
+  pub digits-ended : length xs ≤ i → allDigits hex (drop i xs) ≡ true
+  digits-ended h = ap (allDigits hex) (drop-of-length-le xs {i = i} h)
 
-other-and : (a b : Bool) → (a && b) ≡ true → b ≡ true
-other-and true b e = e
-other-and false b e = absurd (let z : _≡_ {A = ℕ} 0 1 = cc in omega arith)
+  module _ (h : i < length xs) where
+    digits-ahead : allDigits hex (drop i xs) ≡ (isDigit hex (getD xs i 0) && allDigits hex (drop (i + 1) xs))
+    digits-ahead = ap (allDigits hex) (ahead xs i h)
+
+    pub digit-passed : isDigit hex (getD xs i 0) ≡ true → allDigits hex (drop i xs) ≡ allDigits hex (drop (i + 1) xs)
+    digit-passed e = digits-ahead ∙ ap (λ (b : Bool). b && allDigits hex (drop (i + 1) xs)) e
+
+    pub no-digit : isDigit hex (getD xs i 0) ≡ false → allDigits hex (drop i xs) ≡ false
+    no-digit e = digits-ahead ∙ ap (λ (b : Bool). b && allDigits hex (drop (i + 1) xs)) e
+
+    pub digit-here : allDigits hex (drop i xs) ≡ true → isDigit hex (getD xs i 0) ≡ true
+    digit-here e = and-left (isDigit hex (getD xs i 0)) _ (sym digits-ahead ∙ e)
+
+    pub digits-left : allDigits hex (drop i xs) ≡ true → allDigits hex (drop (i + 1) xs) ≡ true
+    digits-left e = and-right (isDigit hex (getD xs i 0)) _ (sym digits-ahead ∙ e)
 
 module _ (xs : List ℕ) (i : ℕ) where
-  pub digits-ended : length xs ≤ i → allDigits (drop i xs) ≡ true
-  digits-ended h = ap allDigits (drop-of-length-le xs {i = i} h)
-
   pub value-ended : (v : ℕ) → length xs ≤ i → valueBehind v (drop i xs) ≡ v
   value-ended v h = ap (valueBehind v) (drop-of-length-le xs {i = i} h)
 
   module _ (h : i < length xs) where
-    digits-ahead : allDigits (drop i xs) ≡ (isDigit (getD xs i 0) && allDigits (drop (i + 1) xs))
-    digits-ahead = ap allDigits (ahead xs i h)
-
-    pub digit-passed : isDigit (getD xs i 0) ≡ true → allDigits (drop i xs) ≡ allDigits (drop (i + 1) xs)
-    digit-passed e = digits-ahead ∙ ap (λ (b : Bool). b && allDigits (drop (i + 1) xs)) e
-
-    pub no-digit : isDigit (getD xs i 0) ≡ false → allDigits (drop i xs) ≡ false
-    no-digit e = digits-ahead ∙ ap (λ (b : Bool). b && allDigits (drop (i + 1) xs)) e
-
-    pub digit-here : allDigits (drop i xs) ≡ true → 48 ≤ getD xs i 0
-    digit-here e = leb-true 48 (getD xs i 0) (one-and _ _ (one-and _ _ (sym digits-ahead ∙ e)))
-
-    pub digits-left : allDigits (drop i xs) ≡ true → allDigits (drop (i + 1) xs) ≡ true
-    digits-left e = other-and (isDigit (getD xs i 0)) _ (sym digits-ahead ∙ e)
-
     pub value-ahead : (v : ℕ) → valueBehind v (drop i xs) ≡ valueBehind (v * 10 + (getD xs i 0 - 48)) (drop (i + 1) xs)
     value-ahead v = ap (valueBehind v) (ahead xs i h)
 
@@ -67,10 +63,10 @@ pub no-word : (xs : List ℕ) → length xs ≡ 0 → numberOf xs ≡ NotANumber
 no-word [] e = refl
 no-word (x ∷ xs) e = absurd (omega arith)
 
-pub not-digits : (xs : List ℕ) → allDigits xs ≡ false → numberOf xs ≡ NotANumber
+pub not-digits : (xs : List ℕ) → allDigits false xs ≡ false → numberOf xs ≡ NotANumber
 not-digits [] e = refl
 not-digits (x ∷ xs) e = ap (λ (b : Bool). cond b (held (valueBehind 0 (x ∷ xs))) NotANumber) e
 
-pub all-digits : (xs : List ℕ) → (length xs ≡ 0 → ⊥) → allDigits xs ≡ true → numberOf xs ≡ held (valueBehind 0 xs)
+pub all-digits : (xs : List ℕ) → (length xs ≡ 0 → ⊥) → allDigits false xs ≡ true → numberOf xs ≡ held (valueBehind 0 xs)
 all-digits [] n e = absurd (n refl)
 all-digits (x ∷ xs) n e = ap (λ (b : Bool). cond b (held (valueBehind 0 (x ∷ xs))) NotANumber) e

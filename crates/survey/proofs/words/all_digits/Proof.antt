@@ -11,11 +11,11 @@ use Rattle.survey.proofs.words.all_digits.Statement.{statement}
 use Rattle.survey.proofs.words.all_digits.Tie as tie
 
 abbrev Inv-loop : tie.InvT-loop
-Inv-loop word i₀ i =
-    (i ≤ length word) × (allDigits (drop i word) ≡ allDigits word)
+Inv-loop word hex i₀ i =
+    (i ≤ length word) × (allDigits hex (drop i word) ≡ allDigits hex word)
 
 abbrev μ-loop : tie.MeasureT-loop
-μ-loop word i₀ i = length word - i
+μ-loop word hex i₀ i = length word - i
 
 loop-holds : tie.Need-loop-holds Inv-loop μ-loop
 loop-holds c = (omega arith, refl)
@@ -29,8 +29,9 @@ is-digit-requires c κs = search needs
 returns : tie.Need-returns Inv-loop μ-loop
 returns c =
     let l = c .before .before .before .before in
-    let word = l .before .before .args .word .now in
-    sym (no-digit word (l .loop .i) (omega arith) (sym (c .before .is-digit .ensures) ∙ not-true _ (c .if1 .taken))) ∙ l .loop .inv .1
+    let a = l .before .before .args in
+    let word = a .word .now in
+    sym (no-digit (a .hex) word (l .loop .i) (omega arith) (sym (c .before .is-digit .ensures) ∙ not-true _ (c .if1 .taken))) ∙ l .loop .inv .1
 
 add-i : tie.Need-add-i Inv-loop μ-loop
 add-i c = search needs
@@ -41,13 +42,15 @@ loop-less c = search needs
 loop-again : tie.Need-loop-again Inv-loop μ-loop
 loop-again c =
     let l = c .before .before .before .before in
-    let word = l .before .before .args .word .now in
-    (omega arith, sym (digit-passed word (l .loop .i) (omega arith) (sym (c .before .is-digit .ensures) ∙ not-false _ (c .if1 .left))) ∙ l .loop .inv .1)
+    let a = l .before .before .args in
+    let word = a .word .now in
+    (omega arith, sym (digit-passed (a .hex) word (l .loop .i) (omega arith) (sym (c .before .is-digit .ensures) ∙ not-false _ (c .if1 .left))) ∙ l .loop .inv .1)
 
 returns-2 : tie.Need-returns-2 Inv-loop μ-loop
 returns-2 c =
     let l = c .before in
-    sym (digits-ended (l .before .before .args .word .now) (l .loop .i) (omega arith)) ∙ l .loop .inv .1
+    let a = l .before .before .args in
+    sym (digits-ended (a .hex) (a .word .now) (l .loop .i) (omega arith)) ∙ l .loop .inv .1
 
 pub all-digits-spec : {M : Type 1} → statement M
 all-digits-spec =

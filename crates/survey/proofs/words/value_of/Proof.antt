@@ -1,10 +1,11 @@
 -- `words::value_of` meets its contract. The loop's invariant: the digits left, behind the value so far, have the value of all.
 use Prim.Native.Nat.{_+_, _-_, _≤_}
 use mathlib.Core.Path.{_≡_, refl, sym, ap, _∙_}
-use mathlib.Core.Bool.{true}
-use lib.ListN.{length, drop}
+use mathlib.Core.Bool.{true, false}
+use lib.ListN.{length, drop, getD}
 use Rattle.survey.specs.Words.{allDigits, valueBehind, held}
 use Rattle.survey.proofs.laws.Numbers.{digit-here, digits-left, value-ahead, value-ended, held-whole, too-large}
+use Rattle.survey.proofs.laws.Hex.{decimal-range}
 use borrow.Author.Needs.{needs}
 use native.Mathlib.Omega.{arith}
 use Rattle.survey.proofs.words.value_of.Statement.{statement}
@@ -14,7 +15,7 @@ abbrev Inv-loop : tie.InvT-loop
 Inv-loop digits value₀ i₀ value i =
     (i ≤ length digits)
     × (value ≤ 18446744073709551615)
-    × (allDigits (drop i digits) ≡ true)
+    × (allDigits false (drop i digits) ≡ true)
     × (valueBehind value (drop i digits) ≡ valueBehind 0 digits)
 
 abbrev μ-loop : tie.MeasureT-loop
@@ -38,7 +39,8 @@ shared-slice-read-digit c = search needs
 sub-digit : tie.Need-sub-digit Inv-loop μ-loop
 sub-digit c =
     let l = c .before .before .before in
-    omega (arith, digit-here (l .before .args .digits .now) (l .loop .i) (omega arith) (l .loop .inv .2))
+    let digits = l .before .args .digits .now in
+    omega (arith, decimal-range (getD digits (l .loop .i) 0) (digit-here false digits (l .loop .i) (omega arith) (l .loop .inv .2)))
 
 cast-digit : tie.Need-cast-digit Inv-loop μ-loop
 cast-digit c = omega (arith, c .shared-slice-known .given (c .before .before .before .loop .i))
@@ -65,7 +67,7 @@ loop-again : tie.Need-loop-again Inv-loop μ-loop
 loop-again c =
     let l = c .before .before .before .before in
     let digits = l .before .args .digits .now in
-    (omega arith, omega arith, digits-left digits (l .loop .i) (omega arith) (l .loop .inv .2), sym (value-ahead digits (l .loop .i) (omega arith) (l .loop .value)) ∙ l .loop .inv .3)
+    (omega arith, omega arith, digits-left false digits (l .loop .i) (omega arith) (l .loop .inv .2), sym (value-ahead digits (l .loop .i) (omega arith) (l .loop .value)) ∙ l .loop .inv .3)
 
 returns-3 : tie.Need-returns-3 Inv-loop μ-loop
 returns-3 c =

@@ -1,0 +1,29 @@
+-- Bytes as hex digits, two a byte, the higher first; `-` for no bytes ("HEX" of the protocol).
+use Prim.Native.Nat.{ℕ, _+_, _*_, _-_, _/_, _%_}
+use mathlib.Core.Bool.{Bool, true, false, cond, not, _&&_, _||_}
+use mathlib.Core.List.{List, [], _∷_}
+use lib.Dec.{leb, ltb, eqb}
+use lib.ListN.{length}
+use Rattle.survey.specs.Words.{isDecimal, isLetter, allDigits}
+
+-- "an even number of digits 0-9a-f", and not none of them
+abbrev pub isHex : List ℕ → Bool
+isHex word = not (eqb (length word) 0) && eqb (length word % 2) 0 && allDigits true word
+
+-- the value of a digit, and the digit of a value; 0 of what is no digit
+abbrev pub digitValue : ℕ → ℕ
+digitValue x = cond (isDecimal x) (x - 48) (cond (isLetter x) (x - 87) 0)
+
+abbrev pub hexDigit : ℕ → ℕ
+hexDigit v = cond (ltb v 10) (v + 48) (v + 87)
+
+-- the bytes of digits
+abbrev pub bytesOf : List ℕ → List ℕ
+bytesOf [] = []
+bytesOf (high ∷ []) = []
+bytesOf (high ∷ low ∷ rest) = (digitValue high * 16 + digitValue low) ∷ bytesOf rest
+
+-- the digits of bytes
+abbrev pub hexOf : List ℕ → List ℕ
+hexOf [] = []
+hexOf (b ∷ bs) = hexDigit (b / 16) ∷ hexDigit (b % 16) ∷ hexOf bs

@@ -1,0 +1,288 @@
+"""The day's file, after the paper: sheets as records and trailers, written into a buffer and read back from any bytes.
+
+Quoted sentences are the paper's. 'Sheets follow one another; the last ends at the end of the file', so that a file is
+read from its end: the trailer says where the sheet starts, and the bytes ahead of that start are a file again.
+In a call the lowest number that applies is given, 'except in reading: there 16, 17, 13, 14, 18 in that order'.
+"""
+
+from itertools import takewhile
+from struct import Struct
+from typing import Iterator, NamedTuple, Sequence
+
+from reference import measure as m, sheet as s
+from reference.measure import ACCEPTED, B, H, KINDS, R, S, U
+from reference.sheet import LENGTHS_SHORT, NOT_ENCLOSED, NOT_JUSTIFIED, Sheet, Space
+
+# Numbers of refusal (1 to 14 stand in measure.py and sheet.py).
+TOO_LITTLE_ROOM = 15  # buffer has too little room from the named place
+WRONG_FILE = 16  # the file's size, or its trailer's distance, count, mark, zero byte or tonnage length
+WRONG_RECORD = 17  # with the position, from 1, of the first such record
+WRONG_SUMS = 18  # gross or net isn't what the records give
+
+GREATEST_TONNAGE = 100_000_000  # 'which no entry from offsets in range can pass'
+ZERO = 0  # what a zero field and a zero byte hold
+MOST_BYTES = 65_536  # of the input of `sheetlist`
+LETTERS = {U: "U", B: "B", S: "S", H: "H", R: "R"}
+
+# 'Numbers are little-endian': H has 2 bytes, B 1, I 4 and Q 8.
+RECORD = Struct("<HHBBHII")
+TRAILER = Struct("<IHBBIQQ")
+
+
+class Record(NamedTuple):
+    """'Id 2, enclosing id 2 (0 for U, B, S, H), kind 1, standing 1, zero 2, tonnage 4, length 4.'"""
+
+    id: int
+    within: int
+    kind: int
+    standing: int
+    zero: int
+    tonnage: int
+    length: int
+
+
+class Trailer(NamedTuple):
+    """'Distance from the end back to the first record 4 ..., count 2, justified 1, zero 1, tonnage length 4, gross 8,
+    net 8.'
+    """
+
+    distance: int
+    count: int
+    justified: int
+    zero: int
+    length: int
+    gross: int
+    net: int
+
+
+ReadAnswer = tuple[int, int, int, int, Sheet]  # number, position, mark, start and sheet
+
+
+# A sheet as bytes
+
+def distance(count: int) -> int:
+    """'From the end back to the first record (16 x count + 28)': the bytes of a sheet."""
+    return RECORD.size * count + TRAILER.size
+
+
+def record_of(space: Space) -> Record:
+    """The record of a standing space."""
+    return Record(space.id, space.within, space.kind, space.standing, ZERO, space.tonnage, space.length)
+
+
+def space_of(record: Record) -> Space:
+    """The space that a record speaks of."""
+    return Space(record.id, record.within, record.kind, record.standing, record.tonnage, record.length)
+
+
+def trailer_of(sheet: Sheet, justified: int) -> Trailer:
+    """The trailer of a sheet that can be reported."""
+    count, spaces = len(sheet.spaces), sheet.spaces
+    return Trailer(distance(count), count, justified, ZERO, sheet.length, s.gross(spaces), s.net(spaces))
+
+
+def as_bytes(records: Sequence[Record], trailer: Trailer) -> bytes:
+    """'One 16-byte record per standing space in order of entry, then a 28-byte trailer.'"""
+    return b"".join(RECORD.pack(*record) for record in records) + TRAILER.pack(*trailer)
+
+
+def bytes_of(sheet: Sheet, justified: int) -> bytes:
+    """What a write of this sheet writes."""
+    return as_bytes([record_of(space) for space in sheet.spaces], trailer_of(sheet, justified))
+
+
+# Writing
+
+def too_little_room(sheet: Sheet, buffer: bytes, at: int) -> bool:
+    """15: 'buffer has too little room from the named place'; at its end or past it there is none."""
+    return len(buffer) - at < distance(len(sheet.spaces))
+
+
+def numbers_of_write(sheet: Sheet, justified: int, buffer: bytes, at: int) -> set[int]:
+    """Those from 1 to 15, for a write."""
+    numbers = s.numbers_of_report(sheet, justified)
+    return numbers | s.applying({TOO_LITTLE_ROOM: too_little_room(sheet, buffer, at)})
+
+
+def write(sheet: Sheet, justified: int, buffer: bytes, at: int) -> tuple[int, int, bytes, Sheet]:
+    """The number, the bytes written, the buffer afterwards and the sheet.
+
+    'Writing starts at a place in the buffer that the caller names and answers the bytes written; no byte before or
+    after is touched'; refused, '0 bytes and an untouched buffer'.
+    """
+    number = s.lowest(numbers_of_write(sheet, justified, buffer, at))
+    if number:
+        return number, 0, buffer, sheet
+    written = bytes_of(sheet, justified)
+    return ACCEPTED, len(written), buffer[:at] + written + buffer[at + len(written):], sheet
+
+
+# The last sheet of a file
+
+def last_trailer(file: bytes) -> Trailer:
+    """The trailer at the end of a file that is long enough for one."""
+    return Trailer(*TRAILER.unpack(file[-TRAILER.size:]))
+
+
+def last_start(file: bytes) -> int:
+    """Where the last sheet starts, in a file that is long enough for it."""
+    return len(file) - last_trailer(file).distance
+
+
+def last_records(file: bytes) -> list[Record]:
+    """The records of the last sheet, in a file whose trailer isn't wrong."""
+    return [Record(*fields) for fields in RECORD.iter_unpack(file[last_start(file):-TRAILER.size])]
+
+
+# 16: the file and its trailer
+
+def wrong_distance(trailer: Trailer) -> bool:
+    """'Distance ... wrong': it is 16 x count + 28."""
+    return trailer.distance != distance(trailer.count)
+
+
+def wrong_mark(trailer: Trailer) -> bool:
+    """'Mark ... wrong': it is 0 or 1."""
+    return trailer.justified not in s.MARKS
+
+
+def wrong_length(trailer: Trailer) -> bool:
+    """'Tonnage length wrong': it is out of its range."""
+    return trailer.length not in m.TONNAGE_LENGTHS
+
+
+def wrong_trailer(trailer: Trailer) -> bool:
+    """'Count over 200; distance, zero byte, mark or tonnage length wrong.'"""
+    return (
+        trailer.count > s.PLACES
+        or wrong_distance(trailer)
+        or trailer.zero != ZERO
+        or wrong_mark(trailer)
+        or wrong_length(trailer)
+    )
+
+
+def wrong_file(file: bytes) -> bool:
+    """16: 'file shorter than 28 bytes or than its distance', or one with a wrong trailer."""
+    if len(file) < TRAILER.size:
+        return True
+    trailer = last_trailer(file)
+    return len(file) < trailer.distance or wrong_trailer(trailer)
+
+
+# 17: the records
+
+def out_of_range(record: Record) -> bool:
+    """'A number outside its range', of a known kind."""
+    return (
+        record.id not in s.IDS
+        or record.standing not in s.STANDINGS
+        or record.tonnage > GREATEST_TONNAGE
+        or record.length not in m.LENGTHS[record.kind]
+    )
+
+
+def enclosed_outside_a_room(record: Record) -> bool:
+    """'A U, B, S or H with an enclosing id.'"""
+    return record.kind != R and record.within != NOT_ENCLOSED
+
+
+def wrong_in_itself(record: Record) -> bool:
+    """'A record with a nonzero zero field, a wrong kind, ...', or one of the two above."""
+    return (
+        record.zero != ZERO
+        or record.kind not in KINDS
+        or out_of_range(record)
+        or enclosed_outside_a_room(record)
+    )
+
+
+def resumed(length: int, records: Sequence[Record]) -> tuple[int, Sheet]:
+    """The sheet of the records, and 0; or the position of the first wrong one, and a sheet not open.
+
+    'It checks records in file order as entries with the recorded tonnage and length': those ahead of the first that is
+    wrong in itself are entered, and one of them 'that entry would refuse' comes first.
+    """
+    entered = [space_of(record) for record in takewhile(lambda record: not wrong_in_itself(record), records)]
+    position, sheet = s.resume(length, entered)
+    if not position and len(entered) < len(records):
+        return len(entered) + 1, s.CLOSED
+    return position, sheet
+
+
+# Reading
+
+def wrong_sums(sheet: Sheet, trailer: Trailer) -> bool:
+    """18: 'gross or net isn't what the records give'."""
+    return (trailer.gross, trailer.net) != (s.gross(sheet.spaces), s.net(sheet.spaces))
+
+
+def refused(number: int, position: int = 0) -> ReadAnswer:
+    """'A refused open or read hands back a sheet not open, mark 0, start 0'; the position is of 17 alone."""
+    return number, position, 0, 0, s.CLOSED
+
+
+def read(file: bytes) -> ReadAnswer:
+    """The number, the position, the justified mark, where the last sheet starts, and the sheet.
+
+    'Reading judges the last sheet only; bytes before it don't matter.' 'The sheet read is open, with no open changes.'
+    """
+    if wrong_file(file):
+        return refused(WRONG_FILE)
+    trailer = last_trailer(file)
+    position, sheet = resumed(trailer.length, last_records(file))
+    if position:
+        return refused(WRONG_RECORD, position)
+    if s.lengths_short(sheet):
+        return refused(LENGTHS_SHORT)
+    if s.not_justified(sheet, trailer.justified):
+        return refused(NOT_JUSTIFIED)
+    if wrong_sums(sheet, trailer):
+        return refused(WRONG_SUMS)
+    return ACCEPTED, 0, trailer.justified, last_start(file), sheet
+
+
+def sheets(file: bytes) -> Iterator[ReadAnswer]:
+    """The answers to reading a day's file sheet by sheet, the last first, to its beginning or to the first refused.
+
+    'The bytes ahead of that start are the earlier sheets, read the same way.'
+    """
+    while file:
+        number, position, mark, start, sheet = read(file)
+        yield number, position, mark, start, sheet
+        if number:
+            return
+        file = file[:start]
+
+
+# The listing
+
+def with_point(hundredths: int) -> str:
+    """Feet or tons, with two decimals always."""
+    whole, rest = divmod(hundredths, m.HUNDREDTHS)
+    return f"{whole}.{rest:02}"
+
+
+def line_of(space: Space) -> str:
+    """'Id, enclosing id or 0, kind, standing, tons.'"""
+    return f"{space.id} {space.within} {LETTERS[space.kind]} {space.standing} {with_point(space.tonnage)}"
+
+
+def lines_of(sheet: Sheet) -> list[str]:
+    """'The tonnage length in feet; then one line a space in order of entry ...; then gross and net in tons.'"""
+    return [
+        f"LENGTH {with_point(sheet.length)}",
+        *map(line_of, sheet.spaces),
+        f"GROSS {with_point(s.gross(sheet.spaces))}",
+        f"NET {with_point(s.net(sheet.spaces))}",
+    ]
+
+
+def listing(file: bytes) -> str:
+    """What the program `sheetlist` prints: the last sheet, or 'one line: REFUSED, the number and the position'.
+
+    'The input is at most 65,536 bytes': a longer one is no day's file.
+    """
+    number, position, _, _, sheet = refused(WRONG_FILE) if len(file) > MOST_BYTES else read(file)
+    lines = [f"REFUSED {number} {position}"] if number else lines_of(sheet)
+    return "".join(line + "\n" for line in lines)
