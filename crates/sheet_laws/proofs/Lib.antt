@@ -1,1 +1,5 @@
+-- The starred figures, and any run of calls. Read from top to bottom.
 pub mod Figures
+pub mod Undoable
+pub mod History
+pub mod Runs

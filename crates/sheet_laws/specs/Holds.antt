@@ -1,0 +1,65 @@
+-- What holds after any run of calls. From a sheet just opened or just read it always does (proofs/AnyRun).
+use Prim.Native.Nat.{ℕ, _+_, _≤_}
+use mathlib.Core.Path.{_≡_}
+use mathlib.Core.Bool.{true, false}
+use mathlib.Core.List.{List, []}
+use lib.ListN.{length}
+use Rattle.spaces.specs.Space.{isPlain}
+use Rattle.spaces.specs.Row.{sumOf}
+use Rattle.spaces.specs.Gross.{exempt, gross}
+use Rattle.spaces.specs.declared.space.Space.{Space}
+use Rattle.spaces.specs.declared.sums.Amount.the-variants.{Hull, Deducted}
+use Rattle.spaces_laws.proofs.Lists.{_∈_}
+use Rattle.spaces_laws.proofs.Walk.{Above}
+use Rattle.sheet.specs.Sheet.{standing, usable}
+use Rattle.sheet.specs.Calls.{undone, redone, counted, reported}
+use Rattle.sheet.specs.Resume.{firstRefused}
+use Rattle.sheet.specs.declared.sheet.Sheet.{Sheet}
+use Rattle.sheet.specs.declared.calls.Reported.{Reported}
+use Rattle.sheet_laws.specs.Run.{Call, after, Log, replay, logOf, OpenChanges, countsOf}
+
+-- 12 where the count is nil, and else accepted
+pub record RefusedAtNil (count number : ℕ) : Type 0 where
+  pub at-nil : count ≡ 0 → number ≡ 12
+  pub else-accepted : (count ≡ 0 → ⊥) → number ≡ 0
+
+-- The history of the sheet s after a run that has this log and these counts, where L is the tonnage length and the spaces `start` stood
+-- at first. It is the same under any rules of what may stand (proofs/Runs).
+pub record HistoryHolds (L : ℕ) (start : List Space) (s : Sheet) (log : Log) (k : OpenChanges) : Type 0 where
+  -- "the spaces standing are exactly those that the accepted changes not undone would leave if made in order"
+  pub standing-is : standing s ≡ replay (log .notUndone) start
+  -- the sheet has the paper's counts, and they are those told
+  pub undoable-is : s .undoable ≡ k .undoable
+  pub redoable-is : s .redoable ≡ k .redoable
+  pub counts-told : counted s ≡ record { undoable = k .undoable; redoable = k .redoable; sheet = s }
+  -- "undo or redo is refused only when the paper's count of open changes is nil"
+  pub undo-refused : RefusedAtNil (k .undoable) (undone s .number)
+  pub redo-refused : RefusedAtNil (k .redoable) (redone s .number)
+  -- it is still an open sheet with its tonnage length and its places
+  pub is-usable : usable s ≡ true
+  pub length-kept : s .length ≡ L
+  pub places : length (s .spaces) ≡ 200
+  pub open-places : length (s .changes) ≡ 64
+
+-- "net = gross − D" with nothing cut off: gross − D isn't below 0
+pub record Within (xs : List Space) (r : Reported) : Type 0 where
+  pub gross-is : r .gross ≡ gross xs
+  pub net-and-deducted : r .net + sumOf Deducted xs ≡ r .gross
+  pub net-at-most-gross : r .net ≤ r .gross
+
+-- and all that holds under the paper's rules
+pub record Holds (L : ℕ) (start : List Space) (s : Sheet) (log : Log) (k : OpenChanges) : Type 0 where
+  pub history : HistoryHolds L start s log k
+  -- each space standing, in order, is accepted as a record after those before it
+  pub none-refused : firstRefused L [] (standing s) .number ≡ 0
+  -- "No volume is taken off twice": "of two standing spaces that aren't plain neither is anywhere above the other, and E + D is not
+  -- more than T"
+  pub neither-above : (y z : Space) → y ∈ standing s → z ∈ standing s → isPlain y ≡ false → isPlain z ≡ false
+      → (Above (standing s) y z → ⊥) × (Above (standing s) z y → ⊥)
+  pub taken-off-at-most-whole : exempt (standing s) + sumOf Deducted (standing s) ≤ sumOf Hull (standing s)
+  -- "when a report is given, net is neither below zero nor above gross"
+  pub report-within : (justified : ℕ) → reported s justified .number ≡ 0 → Within (standing s) (reported s justified)
+
+-- all of that after any calls on the sheet `first`
+abbrev pub AfterAnyRun : ℕ → List Space → Sheet → Type 0
+AfterAnyRun L start first = (calls : List Call) → Holds L start (after calls first) (logOf L calls first) (countsOf calls first)

@@ -1,0 +1,145 @@
+-- What a run of calls leaves: the calls that are accepted, the changes among them that aren't undone, the spaces that these leave if
+-- made in order, and the paper's counts. All of it follows from the calls and the numbers that they are answered with.
+use Prim.Native.Nat.{ℕ, _+_, _-_, min}
+use mathlib.Core.Bool.{cond}
+use mathlib.Core.List.{List, [], _∷_, _++_}
+use lib.Dec.{eqb}
+use Rattle.measure.specs.Volumes.{hundredths}
+use Rattle.measure.specs.Offsets.{measured}
+use Rattle.spaces.specs.declared.space.Space.{Space}
+use Rattle.spaces_laws.proofs.Changes.{without, marked as markedById}
+use Rattle.sheet.specs.Calls.{entryOf, entered, withdrawn, marked, undone, redone, counted, reported}
+use Rattle.sheet.specs.declared.sheet.Sheet.{Sheet}
+use Rattle.sheet.specs.declared.calls.Entry.{Entry}
+use Rattle.sheet.specs.declared.calls.Changed.{Changed}
+
+-- ---- calls
+
+-- with what is handed in: an entry, its heights and breadths; an id; an id and a standing; a justified mark
+pub data Call : Type 0 where
+  enter : Entry → List ℕ → List ℕ → Call
+  withdraw : ℕ → Call
+  mark : ℕ → ℕ → Call
+  undo : Call
+  redo : Call
+  counts : Call
+  report : ℕ → Call
+
+-- "every other call on a sheet takes it and hands back the sheet after it", and answers a number
+unfoldable pub answer : Call → Sheet → Changed
+answer (enter e heights breadths) s = entered s e heights breadths
+answer (withdraw id) s = withdrawn s id
+answer (mark id standing) s = marked s id standing
+answer undo s = undone s
+answer redo s = redone s
+answer counts s = record { number = 0; sheet = counted s .sheet }
+answer (report justified) s = record { number = reported s justified .number; sheet = reported s justified .sheet }
+
+-- the sheet after a run of calls
+abbrev pub after : List Call → Sheet → Sheet
+after [] s = s
+after (c ∷ calls) s = after calls (answer c s .sheet)
+
+-- the calls of a run that are accepted, in order: "A report, a write and a refused call change nothing."
+abbrev pub accepted : List Call → Sheet → List Call
+accepted [] s = []
+accepted (c ∷ calls) s =
+    cond (eqb (answer c s .number) 0) (c ∷ accepted calls (answer c s .sheet)) (accepted calls (answer c s .sheet))
+
+-- ---- changes by id
+
+-- "Changes: enter, withdraw, mark (give a new standing, even the same one)."
+pub data ChangeById : Type 0 where
+  spaceEntered : Space → ChangeById
+  idWithdrawn : ℕ → ChangeById
+  idMarked : ℕ → ℕ → ChangeById
+
+-- what a change makes of the spaces: a new one comes last in order of entry
+abbrev pub made : ChangeById → List Space → List Space
+made (spaceEntered x) xs = xs ++ (x ∷ [])
+made (idWithdrawn id) xs = without id xs
+made (idMarked id standing) xs = markedById id standing xs
+
+-- changes made in order. The latest is named first, and is made on what the earlier ones leave
+abbrev pub replay : List ChangeById → List Space → List Space
+replay [] xs = xs
+replay (c ∷ earlier) xs = made c (replay earlier xs)
+
+-- ---- the log
+
+-- the accepted changes not undone, however many, the latest first; and those undone that redo makes again, the one last undone first
+pub record Log : Type 0 where
+  pub notUndone : List ChangeById
+  pub undone : List ChangeById
+
+abbrev pub noLog : Log
+noLog = record { notUndone = []; undone = [] }
+
+-- a new change: those undone before it stay undone for good
+abbrev pub noted : ChangeById → Log → Log
+noted c log = record { notUndone = c ∷ log .notUndone; undone = [] }
+
+-- "Undo takes back the latest accepted change not undone"
+abbrev pub takenBack : List ChangeById → List ChangeById → Log
+takenBack [] undone = record { notUndone = []; undone = undone }
+takenBack (c ∷ earlier) undone = record { notUndone = earlier; undone = c ∷ undone }
+
+-- "redo makes again the change last undone, which is then undone no longer"
+abbrev pub madeAgain : List ChangeById → List ChangeById → Log
+madeAgain notUndone [] = record { notUndone = notUndone; undone = [] }
+madeAgain notUndone (c ∷ others) = record { notUndone = c ∷ notUndone; undone = others }
+
+-- the space of an entry, measured from its offsets, where L is the tonnage length
+abbrev pub spaceOf : ℕ → Entry → List ℕ → List ℕ → Space
+spaceOf L e heights breadths = entryOf e (measured (e .kind) (hundredths L) (hundredths (e .length)) heights breadths .tonnage)
+
+-- what an accepted call makes of the log
+abbrev pub logged : ℕ → Call → Log → Log
+logged L (enter e heights breadths) log = noted (spaceEntered (spaceOf L e heights breadths)) log
+logged L (withdraw id) log = noted (idWithdrawn id) log
+logged L (mark id standing) log = noted (idMarked id standing) log
+logged L undo log = takenBack (log .notUndone) (log .undone)
+logged L redo log = madeAgain (log .notUndone) (log .undone)
+logged L counts log = log
+logged L (report justified) log = log
+
+abbrev pub allLogged : ℕ → List Call → Log → Log
+allLogged L [] log = log
+allLogged L (c ∷ calls) log = allLogged L calls (logged L c log)
+
+-- the log of a run from a sheet
+abbrev pub logOf : ℕ → List Call → Sheet → Log
+logOf L calls s = allLogged L (accepted calls s) noLog
+
+-- ---- the counts
+
+pub record OpenChanges : Type 0 where
+  pub undoable : ℕ
+  pub redoable : ℕ
+
+-- "undoable starts at 0 and redoable at 0"
+abbrev pub noneOpen : OpenChanges
+noneOpen = record { undoable = 0; redoable = 0 }
+
+-- "A change makes undoable one more, never above 64, and redoable 0."
+abbrev pub oneMore : OpenChanges → OpenChanges
+oneMore k = record { undoable = min 64 (k .undoable + 1); redoable = 0 }
+
+-- what an accepted call makes of the counts
+abbrev pub recounted : Call → OpenChanges → OpenChanges
+recounted (enter e heights breadths) k = oneMore k
+recounted (withdraw id) k = oneMore k
+recounted (mark id standing) k = oneMore k
+-- "Undo .. takes one from undoable and adds it to redoable; redo .. counts the opposite way"
+recounted undo k = record { undoable = k .undoable - 1; redoable = k .redoable + 1 }
+recounted redo k = record { undoable = k .undoable + 1; redoable = k .redoable - 1 }
+recounted counts k = k
+recounted (report justified) k = k
+
+abbrev pub allCounted : List Call → OpenChanges → OpenChanges
+allCounted [] k = k
+allCounted (c ∷ calls) k = allCounted calls (recounted c k)
+
+-- the counts after a run from a sheet
+abbrev pub countsOf : List Call → Sheet → OpenChanges
+countsOf calls s = allCounted (accepted calls s) noneOpen
