@@ -3,3 +3,7 @@ pub mod Figures
 pub mod Undoable
 pub mod History
 pub mod Runs
+pub mod Changes
+pub mod Resumable
+pub mod Accepted
+pub mod AnyRun

@@ -1,0 +1,119 @@
+-- Spaces that `resume` accepts: a valid sheet, and no record that no entry could have made. An accepted entry, withdrawal and mark
+-- leave such spaces.
+use Prim.Native.Nat.{ℕ}
+use mathlib.Core.Path.{_≡_, refl, sym, ap, _∙_}
+use mathlib.Core.Bool.{true, false, not, _&&_}
+use mathlib.Core.List.{List, [], _∷_, _++_, List·Memᴰ·head, List·Memᴰ·tail, List·Memᴰ·not-nil, List·Memᴰ·cases-cons, Memᴰ·of-map}
+use mathlib.Core.Logic.{_↔_, ⊎-elim}
+use native.Mathlib.Omega.{arith}
+use borrow.Author.Tests.{eqb-true, eqb-false, eq-eqb, le-ltb}
+use lib.Dec.{eqb}
+use Rattle.measure.specs.Kinds.{kindOf, isKind}
+use Rattle.measure.specs.Ranges.{within, allWithin, tonnageLengths, lengths, heights, breadths}
+use Rattle.measure.specs.Volumes.{hundredths}
+use Rattle.measure.specs.Offsets.{inRange, measured}
+use Rattle.measure.specs.declared.units.Hundredths.{Hundredths}
+use Rattle.measure.proofs.laws.Tests.{and-left, and-right}
+use Rattle.measure_laws.proofs.Offsets.{measured-exactly, measured-at-most}
+use Rattle.spaces.specs.declared.space.Space.{Space}
+use Rattle.spaces.specs.Rules.{entryTests, entryNumber, withdrawNumber, markNumber}
+use Rattle.spaces.specs.Valid.{ValidFrom, done, next, Valid}
+use Rattle.spaces.proofs.laws.Cases.{by-test}
+use Rattle.spaces_laws.proofs.Tests.{or-fails-of}
+use Rattle.spaces_laws.proofs.Lists.{_∈_, all-snoc}
+use Rattle.spaces_laws.proofs.Valid.{valid-entered}
+use Rattle.spaces_laws.proofs.Changes.{without, marking, marked}
+use Rattle.spaces_laws.proofs.Withdraw.{withdrawal-by-id-keeps-valid}
+use Rattle.spaces_laws.proofs.Mark.{mark-by-id-keeps-valid}
+use Rattle.sheet.specs.Calls.{entryOf}
+use Rattle.sheet.specs.Resume.{misrecorded, recordNumber, firstRefused}
+use Rattle.sheet.specs.declared.calls.Entry.{Entry}
+use Rattle.sheet.proofs.laws.Calls.{passes, passed}
+
+pub record Resumable (L : ℕ) (xs : List Space) : Type 0 where
+  pub valid : Valid L xs
+  pub well-recorded : (y : Space) → y ∈ xs → misrecorded y ≡ false
+
+-- ---- exactly those spaces of which no record is refused
+
+-- record by record: a number 0 is no 2 and an accepted entry
+all-accepted : (L : ℕ) (pre xs : List Space) → firstRefused L pre xs .number ≡ 0
+    → ValidFrom L pre xs × ((y : Space) → y ∈ xs → misrecorded y ≡ false)
+unfolding recordNumber entryNumber
+all-accepted L pre [] e = (done, λ y m. absurd (List·Memᴰ·not-nil m))
+all-accepted L pre (x ∷ xs) e =
+    by-test (eqb (recordNumber L pre x) 0)
+    (λ t.
+    let one = passed (misrecorded x) 2 (entryTests L pre x) (eqb-true _ _ t) (λ w. omega arith) in
+    let rest = all-accepted L (pre ++ (x ∷ [])) xs (rw t at e) in (
+      next (one .1) (rest .0),
+      λ y m. ⊎-elim (λ (q : y ≡ x). ap misrecorded q ∙ one .0) (λ (k : y ∈ xs). rest .1 y k) (List·Memᴰ·cases-cons m),
+    ))
+    (λ f. absurd (eqb-false _ _ f (rw f at e)))
+
+-- and the other way round
+none-refused : {L : ℕ} {pre xs : List Space} → ValidFrom L pre xs → ((y : Space) → y ∈ xs → misrecorded y ≡ false)
+    → firstRefused L pre xs .number ≡ 0
+unfolding recordNumber entryNumber
+none-refused done well = refl
+none-refused {L} {pre} (next {x = x} e v) well =
+    let number : recordNumber L pre x ≡ 0 = passes (misrecorded x) 2 (entryTests L pre x) (well x (List·Memᴰ·head refl)) ∙ e in
+    rw (eq-eqb (recordNumber L pre x) 0 number) (none-refused v (λ y m. well y (List·Memᴰ·tail m)))
+
+pub resumable-exactly : (L : ℕ) (xs : List Space) → (firstRefused L [] xs .number ≡ 0) ↔ Resumable L xs
+resumable-exactly L xs = (
+  λ e. let r = all-accepted L [] xs e in record { valid = r .0; well-recorded = r .1 },
+  λ r. none-refused (r .valid) (r .well-recorded),
+)
+
+-- ---- the changes: each keeps the sheet valid, and makes no record that isn't well recorded
+
+pub resumable-entered : {L : ℕ} {xs : List Space} (x : Space) → Resumable L xs → misrecorded x ≡ false → entryNumber L xs x ≡ 0
+    → Resumable L (xs ++ (x ∷ []))
+resumable-entered {L} {xs} x r well e =
+    record {
+      valid = valid-entered x (r .valid) e;
+      well-recorded = all-snoc (λ (y : Space). misrecorded y ≡ false) xs x (r .well-recorded) well;
+    }
+
+-- what stands after a withdrawal stood before it
+stood-before : (id : ℕ) (xs : List Space) {y : Space} → y ∈ without id xs → y ∈ xs
+stood-before id [] m = absurd (List·Memᴰ·not-nil m)
+stood-before id (x ∷ xs) {y} m =
+    by-test (eqb (x .id) id)
+    (λ t. List·Memᴰ·tail (stood-before id xs (rw t at m)))
+    (λ f. ⊎-elim (λ (q : y ≡ x). List·Memᴰ·head q) (λ (k : y ∈ without id xs). List·Memᴰ·tail (stood-before id xs k)) (List·Memᴰ·cases-cons (rw f at m)))
+
+pub resumable-withdrawn : {L : ℕ} {xs : List Space} (id : ℕ) → Resumable L xs → withdrawNumber xs id ≡ 0 → Resumable L (without id xs)
+resumable-withdrawn {L} {xs} id r e =
+    record {
+      valid = withdrawal-by-id-keeps-valid id (r .valid) e;
+      well-recorded = λ y m. r .well-recorded y (stood-before id xs m);
+    }
+
+pub resumable-marked : {L : ℕ} {xs : List Space} (id standing : ℕ) → Resumable L xs → markNumber xs id standing ≡ 0
+    → Resumable L (marked id standing xs)
+resumable-marked {L} {xs} id standing r e =
+    record {
+      valid = mark-by-id-keeps-valid id standing (r .valid) e;
+      well-recorded = λ y m.
+          let (z, k, q) = Memᴰ·of-map (marking id standing) xs m in
+          sym (ap misrecorded q) ∙ r .well-recorded z k;
+    }
+
+-- an entry whose offsets are accepted is well recorded: its length was in range, its tonnage is at most 100,000,000, and an enclosing id
+-- is recorded only of a room
+pub entry-well-recorded : (t : Hundredths) (e : Entry) (hs bs : List ℕ) → let m = measured (e .kind) t (hundredths (e .length)) hs bs in
+    m .number ≡ 0 → misrecorded (entryOf e (m .tonnage)) ≡ false
+unfolding inRange entryOf
+entry-well-recorded t e hs bs none =
+    let k = kindOf (e .kind) in
+    let l = hundredths (e .length) in
+    let m = measured (e .kind) t l hs bs in
+    let ranged : inRange k t l hs bs ≡ true = measured-exactly (e .kind) t l hs bs .only-0 none .0 in
+    let measures = and-left _ (allWithin (breadths k) bs) ranged in
+    let both = and-left _ (allWithin (heights k) hs) measures in
+    let long : within (lengths k) (e .length) ≡ true = and-right (isKind k && within tonnageLengths t.0) (within (lengths k) (e .length)) both in
+    or-fails-of _ _
+    (or-fails-of _ _ (le-ltb _ _ (measured-at-most (e .kind) t l hs bs)) (ap not long))
+    (by-test (eqb (e .kind) 5) (λ r. rw r) (λ r. rw r))
