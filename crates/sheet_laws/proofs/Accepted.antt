@@ -48,7 +48,7 @@ mark-accepted s id standing' z =
     let one = passed (not (usable s)) 1 ((ltb 3 standing', 2) ∷ markTests (standing s) id standing') z (λ w. omega arith) in
     passed (ltb 3 standing') 2 (markTests (standing s) id standing') (one .1) (λ w. omega arith) .1
 
--- the rules allow what could be read again: each accepted change leaves such spaces
+-- the rules allow what `resume` accepts: each accepted change leaves such spaces
 pub paper-rules : Rules Resumable
 paper-rules =
     record {

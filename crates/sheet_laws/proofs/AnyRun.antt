@@ -1,5 +1,5 @@
 -- After any run of calls from a sheet just opened or just read: the spaces standing are those that the accepted changes not undone
--- leave if made in order, the counts are the paper's, the sheet is one that could be read again, and no volume is taken off twice.
+-- leave if made in order, the counts are the paper's, each space is accepted in order as a record, and no volume is taken off twice.
 -- Stands on Accepted.
 use Prim.Native.Nat.{ℕ, _+_}
 use mathlib.Core.Path.{_≡_, refl, sym, ap, _∙_}
