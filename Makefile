@@ -6,10 +6,12 @@ KIT := rattle-kit-5b logic 064da1ca440f63e7
 test: kit
 	@rt fmt --check
 	@python3 tools/promises.py
+	@python3 tools/mapped.py
 	@python3 -m unittest discover -q -s reference -t .
 	@python3 tools/stored.py --check
 	@rt ci
 	@python3 tools/edits.py
+	@python3 tools/lists.py > target/lists.log || { cat target/lists.log; exit 1; }
 
 # Proves the library and the program over it, then plays the example barge's morning.
 run: kit

@@ -12,9 +12,11 @@ from time import perf_counter
 
 sys.path.insert(0, '.')
 
+from reference.dayfile import distance  # noqa: E402
 from reference.measure import S, U  # noqa: E402
 from reference.scripts import chain, divided, mark, room, withdraw  # noqa: E402
 from reference.sheet import EXEMPT, PLAIN  # noqa: E402
+from reference.survey import Session  # noqa: E402
 
 ROUNDS = 1000
 ASKED = 50  # microseconds
@@ -57,6 +59,15 @@ def seconds(program: Path, lines: list[str]) -> float:
     return best
 
 
+def on_files() -> dict[str, tuple[str, int]]:
+    """Writing a full sheet of 200 spaces and reading it back, and how often: a script holds few files of that size."""
+    session = Session()
+    session.answers('\n'.join(full_sheet()) + '\n')
+    write = f'write 1 0 {distance(200)}'
+    file = session.answer(write).split(' ')[2]
+    return {'write 200 spaces': (write, 1000), 'read 200 spaces': (f'read {file}', 100)}
+
+
 def main() -> int:
     program = Path(sys.argv[1] if len(sys.argv) > 1 else 'target/bin/survey')
     sheet = full_sheet()
@@ -65,6 +76,10 @@ def main() -> int:
     for name, calls in ROUND.items():
         taken = seconds(program, sheet + calls * ROUNDS) - before
         print(f'{taken / ROUNDS / len(calls) * 1e6:8.1f}  {name}')
+    print('microseconds with the hex digits of 3,228 bytes printed or read (100 asked of a write, 1,000 of a read)')
+    for name, (call, rounds) in on_files().items():
+        taken = seconds(program, sheet + [call] * rounds) - before
+        print(f'{taken / rounds * 1e6:8.1f}  {name}')
     return 0
 
 

@@ -52,11 +52,12 @@ impl Sheet {
         ensures { λ r. ⌜ r ≡ fitted (appended x (standingOf self)) self ⌝ }
     {
         let count = self.count;
-        let mut next = self;
-        if count < 200 {
-            next.spaces[count] = x;
-            next.count = count + 1;
+        if 200 <= count {
+            return self;
         }
+        let mut next = self;
+        next.spaces[count] = x;
+        next.count = count + 1;
         next
     }
 
