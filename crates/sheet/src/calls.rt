@@ -264,43 +264,35 @@ impl Sheet {
         ensures { λ r. ⌜ r ≡ reported self justified ⌝ }
     {
         if !self.usable() {
-            return Reported {
-                number: 1,
-                gross: 0,
-                net: 0,
-                sheet: self,
-            };
+            return self.unreported(1);
         }
         if 1 < justified {
-            return Reported {
-                number: 2,
-                gross: 0,
-                net: 0,
-                sheet: self,
-            };
+            return self.unreported(2);
         }
         let spaces = self.spaces;
         let r = reckon(spaces, self.count);
         if r.lengths != self.length as u64 {
-            return Reported {
-                number: 13,
-                gross: 0,
-                net: 0,
-                sheet: self,
-            };
+            return self.unreported(13);
         }
         if needs_mark(r.unjustified, justified) {
-            return Reported {
-                number: 14,
-                gross: 0,
-                net: 0,
-                sheet: self,
-            };
+            return self.unreported(14);
         }
         Reported {
             number: 0,
             gross: r.gross,
             net: r.net,
+            sheet: self,
+        }
+    }
+
+    // "A refused report gives 0 and 0."
+    fn unreported(self, number: u8) -> Reported
+        ensures { λ r. ⌜ r ≡ record { number = number; gross = 0; net = 0; sheet = self } ⌝ }
+    {
+        Reported {
+            number,
+            gross: 0,
+            net: 0,
             sheet: self,
         }
     }

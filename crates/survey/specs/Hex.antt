@@ -1,8 +1,8 @@
 -- Bytes as hex digits, two a byte, the higher first; `-` for no bytes ("HEX" of the protocol).
 use Prim.Native.Nat.{ℕ, _+_, _*_, _-_, _/_, _%_}
-use mathlib.Core.Bool.{Bool, true, false, cond, not, _&&_, _||_}
+use mathlib.Core.Bool.{Bool, true, cond, not, _&&_}
 use mathlib.Core.List.{List, [], _∷_}
-use lib.Dec.{leb, ltb, eqb}
+use lib.Dec.{ltb, eqb}
 use lib.ListN.{length}
 use Rattle.survey.specs.Words.{isDecimal, isLetter, allDigits}
 

@@ -4,11 +4,10 @@ use mathlib.Core.Path.{_≡_, refl, sym, ap, _∙_}
 use mathlib.Core.Bool.{Bool, true, false, cond, _&&_}
 use mathlib.Core.List.{List, [], _∷_}
 use native.Mathlib.Omega.{arith}
-use borrow.Author.Tests.{le-leb, lt-leb, leb-true}
-use lib.Dec.{leb}
+use borrow.Author.Tests.{le-leb, lt-leb}
 use lib.ListN.{length, drop, getD, drop-of-length-le}
 use Rattle.measure.proofs.laws.Tests.{and-left, and-right}
-use Rattle.survey.specs.Words.{isDecimal, isDigit, allDigits, valueBehind, held, numberOf}
+use Rattle.survey.specs.Words.{isDigit, allDigits, valueBehind, held, numberOf}
 use Rattle.survey.specs.declared.words.Number.the-variants.{Value, NotANumber, TooLarge}
 use Rattle.survey.proofs.laws.Parts.{ahead}
 

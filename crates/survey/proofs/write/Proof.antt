@@ -1,5 +1,4 @@
 -- `write` meets its contract: a size is at most the buffer's.
-use Prim.Native.Nat.{_≤_}
 use mathlib.Core.Path.{sym}
 use native.Mathlib.Omega.{arith}
 use lib.Seq.{length-take-le}

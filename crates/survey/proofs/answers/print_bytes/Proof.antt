@@ -1,6 +1,5 @@
 -- `answers::print_bytes` meets its contract: each part printed leaves a shorter rest.
 use Prim.Native.Nat.{_-_}
-use native.Mathlib.Omega.{arith}
 use lib.ListN.{length}
 use borrow.Author.Needs.{needs}
 use Rattle.survey.proofs.answers.print_bytes.Statement.{statement}

@@ -1,5 +1,4 @@
 -- `hex::is_hex` meets its contract.
-use mathlib.Core.Path.{sym, _∙_}
 use borrow.Author.Tests.{eq-eqb, ne-eqb}
 use borrow.Author.Needs.{needs}
 use Rattle.survey.proofs.hex.is_hex.Statement.{statement}

@@ -1,6 +1,6 @@
 -- `words::is_digit` meets its contract: a decimal digit is one whether hex is asked or not.
 use Prim.Native.Nat.{ℕ}
-use mathlib.Core.Path.{_≡_, refl, sym, ap, _∙_}
+use mathlib.Core.Path.{_≡_, sym, ap, _∙_}
 use mathlib.Core.Bool.{Bool, true, false, cond, _||_}
 use Rattle.survey.specs.Words.{isDecimal, isLetter, isDigit}
 use borrow.Author.Needs.{needs}

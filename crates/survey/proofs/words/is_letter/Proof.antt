@@ -1,6 +1,5 @@
 -- `words::is_letter` meets its contract.
 use borrow.Author.Tests.{le-leb, lt-leb}
-use borrow.Author.Needs.{needs}
 use Rattle.survey.proofs.words.is_letter.Statement.{statement}
 use Rattle.survey.proofs.words.is_letter.Tie as tie
 

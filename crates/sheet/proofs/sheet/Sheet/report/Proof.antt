@@ -1,6 +1,6 @@
 -- `Sheet::report` meets its contract: the tests of 1, 2, 13 and 14, and the figures reckoned.
 use mathlib.Core.Path.{_≡_, sym, ap, _∙_}
-use mathlib.Core.Bool.{true, not, _&&_}
+use mathlib.Core.Bool.{Bool, true, not, _&&_}
 use mathlib.Core.List.{[], _∷_}
 use Prim.Native.Nat.{ℕ, _≤_}
 use Rattle.measure.proofs.laws.Tests.{holds, fails}
@@ -12,7 +12,7 @@ use Rattle.spaces.specs.Gross.{unjustified}
 use Rattle.spaces.specs.declared.sums.Amount.the-variants.{Lengths}
 use Rattle.spaces.specs.declared.gross.Reckoning.{Reckoning}
 use Rattle.sheet.specs.Sheet.{standing, usable}
-use Rattle.sheet.specs.Calls.{reported, reportedWith}
+use Rattle.sheet.specs.Calls.{reportNumber, reported, reportedWith}
 use Rattle.sheet.specs.declared.sheet.Sheet.{Sheet}
 use Rattle.sheet.proofs.laws.Calls.{applies, passes, not-open, is-open}
 use Rattle.sheet.proofs.laws.Report.{from-2, from-13, from-14}
@@ -31,79 +31,105 @@ past-13 s j on one full =
 usable-requires : tie.Need-usable-requires
 usable-requires c κs = search needs
 
+unreported-requires : tie.Need-unreported-requires
+unreported-requires c κs = search needs
+
 returns : tie.Need-returns
 unfolding reported
 returns c =
-    let s = c .before .before in
-    let sh = s .args .self in
-    let j = s .args .justified in
-    ap (λ (n : ℕ). reportedWith n sh) (sym (not-open sh (from-2 sh j) (fails (c .before .usable .ensures .usable-is) (c .if1 .taken))))
+    let a = c .before .before .before .args in
+    let off = not-open (a .self) (from-2 (a .self) (a .justified)) (fails (c .before .before .usable .ensures .usable-is) (c .before .if1 .taken)) in
+    c .unreported .ensures ∙ ap (λ (n : ℕ). reportedWith n (a .self)) (sym off)
+
+unreported-requires-2 : tie.Need-unreported-requires-2
+unreported-requires-2 c κs = search needs
 
 returns-2 : tie.Need-returns-2
 unfolding reported
 returns-2 c =
-    let s = c .before .before .before in
-    let sh = s .args .self in
-    let j = s .args .justified in
-    let on = is-open sh (from-2 sh j) (holds (c .before .before .usable .ensures .usable-is) (c .before .if1 .left)) in
-    ap (λ (n : ℕ). reportedWith n sh) (sym (on ∙ applies (ltb 1 j) 2 (from-13 sh j) (lt-ltb 1 j (c .if2 .taken))))
+    let a = c .before .before .before .before .args in
+    let j = a .justified in
+    let on = is-open (a .self) (from-2 (a .self) j) (holds (c .before .before .before .usable .ensures .usable-is) (c .before .before .if1 .left)) in
+    c .unreported2 .ensures
+    ∙ ap (λ (n : ℕ). reportedWith n (a .self)) (sym (on ∙ applies (ltb 1 j) 2 (from-13 (a .self) j) (lt-ltb 1 j (c .before .if2 .taken))))
 
 reckon-requires : tie.Need-reckon-requires
 reckon-requires c κs = search needs
 
+-- once the spaces are reckoned, 1 and 2 are passed over
+module _ (d : tie.After-reckon) where
+  abbrev sh : Sheet
+  sh = d .before .before .before .before .before .args .self
+
+  abbrev j : ℕ
+  j = d .before .before .before .before .before .args .justified
+
+  on : usable sh ≡ true
+  on = holds (d .before .before .before .before .usable .ensures .usable-is) (d .before .before .before .if1 .left)
+
+  lengths-are : d .reckon .result .lengths ≡ sumOf Lengths (standing sh)
+  lengths-are = ap (λ (r : Reckoning). r .lengths) (d .reckon .ensures)
+
+  short : (d .reckon .result .lengths ≡ sh .length → ⊥) → reportNumber sh j ≡ 13
+  short differ =
+      past-2 sh j on (d .before .before .if2 .left)
+      ∙ applies (not (eqb (sumOf Lengths (standing sh)) (sh .length))) 13 (from-14 sh j)
+      (ap not (ne-eqb (sumOf Lengths (standing sh)) (sh .length) (λ same. differ (lengths-are ∙ same))))
+
+  -- and then the test of 14 decides
+  module _ (full : d .reckon .result .lengths ≡ sh .length) (t : Bool) (needed : t ≡ (d .reckon .result .unjustified && eqb j 0)) where
+    left : reportNumber sh j ≡ firstOf ((t, 14) ∷ [])
+    left =
+        past-13 sh j on (d .before .before .if2 .left) (sym lengths-are ∙ full)
+        ∙ ap (λ (b : Bool). firstOf ((b, 14) ∷ [])) (sym (needed ∙ ap (λ (r : Reckoning). r .unjustified && eqb j 0) (d .reckon .ensures)))
+
 cast-if3 : tie.Need-cast-if3
 cast-if3 c = search needs
+
+unreported-requires-3 : tie.Need-unreported-requires-3
+unreported-requires-3 c κs = search needs
 
 returns-3 : tie.Need-returns-3
 unfolding reported
 returns-3 c =
-    let s = c .before .before .before .before .before .before .before .before in
-    let sh = s .args .self in
-    let j = s .args .justified in
-    let d = c .before .before .before in
-    let on = past-2 sh j (holds (d .before .before .before .before .usable .ensures .usable-is) (d .before .before .before .if1 .left)) (d .before .before .if2 .left) in
-    let l = ap (λ (r : Reckoning). r .lengths) (d .reckon .ensures) in
-    let lengths = sumOf Lengths (standing sh) in
-    ap (λ (n : ℕ). reportedWith n sh) (sym (on ∙ applies (not (eqb lengths (sh .length))) 13 (from-14 sh j) (ap not (ne-eqb lengths (sh .length) (rw l at (c .if3 .taken))))))
+    let d = c .before .before .before .before in
+    c .unreported3 .ensures ∙ ap (λ (n : ℕ). reportedWith n (sh d)) (sym (short d (c .before .if3 .taken)))
 
 needs-mark-requires : tie.Need-needs-mark-requires
 needs-mark-requires c κs = search needs
 
+unreported-requires-4 : tie.Need-unreported-requires-4
+unreported-requires-4 c κs = search needs
+
 returns-4 : tie.Need-returns-4
 unfolding reported
 returns-4 c =
-    let s = c .before .before .before .before .before .before .before .before .before .before in
-    let sh = s .args .self in
-    let j = s .args .justified in
-    let d = c .before .before .before .before .before in
-    let l = ap (λ (r : Reckoning). r .lengths) (d .reckon .ensures) in
-    let on = past-13 sh j (holds (d .before .before .before .before .usable .ensures .usable-is) (d .before .before .before .if1 .left)) (d .before .before .if2 .left) (sym l ∙ c .before .before .if3 .left) in
-    let u = sym (ap (λ (r : Reckoning). r .unjustified && eqb j 0) (d .reckon .ensures)) ∙ sym (c .before .needs-mark .ensures) in
-    ap (λ (n : ℕ). reportedWith n sh) (sym (on ∙ applies (unjustified (standing sh) && eqb j 0) 14 [] (u ∙ c .if4 .taken)))
+    let d = c .before .before .before .before .before .before in
+    let at-14 = left d (c .before .before .before .if3 .left) _ (c .before .before .needs-mark .ensures) ∙ applies _ 14 [] (c .before .if4 .taken) in
+    c .unreported4 .ensures ∙ ap (λ (n : ℕ). reportedWith n (sh d)) (sym at-14)
 
 returns-5 : tie.Need-returns-5
 unfolding reported
 returns-5 c =
-    let s = c .before .before .before .before .before .before .before .before .before .before in
-    let sh = s .args .self in
-    let j = s .args .justified in
     let d = c .before .before .before .before .before in
-    let l = ap (λ (r : Reckoning). r .lengths) (d .reckon .ensures) in
-    let on = past-13 sh j (holds (d .before .before .before .before .usable .ensures .usable-is) (d .before .before .before .if1 .left)) (d .before .before .if2 .left) (sym l ∙ c .before .before .if3 .left) in
-    let u = sym (ap (λ (r : Reckoning). r .unjustified && eqb j 0) (d .reckon .ensures)) ∙ sym (c .before .needs-mark .ensures) in
-    let none = on ∙ passes (unjustified (standing sh) && eqb j 0) 14 [] (u ∙ c .if4 .left) in
-    ap (λ (r : Reckoning). record { number = 0; gross = r .gross; net = r .net; sheet = sh }) (d .reckon .ensures) ∙ ap (λ (n : ℕ). reportedWith n sh) (sym none)
+    let none = left d (c .before .before .if3 .left) _ (c .before .needs-mark .ensures) ∙ passes _ 14 [] (c .if4 .left) in
+    ap (λ (r : Reckoning). record { number = 0; gross = r .gross; net = r .net; sheet = sh d }) (d .reckon .ensures)
+    ∙ ap (λ (n : ℕ). reportedWith n (sh d)) (sym none)
 
 pub report-spec : {M : Type 1} → statement M
 report-spec =
     tie.close
     (tie.spec
     usable-requires
+    unreported-requires
     returns
+    unreported-requires-2
     returns-2
     reckon-requires
     cast-if3
+    unreported-requires-3
     returns-3
     needs-mark-requires
+    unreported-requires-4
     returns-4
     returns-5)
