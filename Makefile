@@ -1,7 +1,7 @@
-# `make run` surveys the example barge; `make test` proves and tests everything.
+# `make run` surveys the example barge; `make test` proves and tests everything; `make fuzz N=100` compares fresh scripts.
 KIT := rattle-kit-5b logic 064da1ca440f63e7
 
-.PHONY: test run stored kit
+.PHONY: test run fuzz stored kit
 
 test: kit
 	@rt fmt --check
@@ -17,6 +17,12 @@ test: kit
 run: kit
 	@rt check survey > target/run.log 2>&1 || { cat target/run.log; exit 1; }
 	@target/bin/survey < examples/barge.txt
+
+# Plays N fresh scripts at random on the proved program and on the second one, and stops at the first difference.
+N := 20
+fuzz: kit
+	@rt check survey > target/run.log 2>&1 || { cat target/run.log; exit 1; }
+	@python3 tools/fuzz.py $(N)
 
 # Writes every stored input and expected output anew, from the second program.
 stored:
