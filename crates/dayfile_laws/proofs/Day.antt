@@ -15,7 +15,7 @@ use Rattle.dayfile.specs.Writing.{sheetBytes}
 use Rattle.dayfile.specs.Reading.{acceptedReading, readOf}
 use Rattle.dayfile.specs.Day.{dayBytes, sheetsIn, Day, none, last}
 use Rattle.dayfile.specs.declared.reading.Reading.{Reading}
-use Rattle.dayfile_laws.proofs.Resumable.{Writable}
+use Rattle.dayfile_laws.proofs.Writable.{Writable}
 use Rattle.dayfile_laws.proofs.WrittenRead.{asRead, length-bytes, written-then-read}
 use Rattle.dayfile_laws.proofs.ReadWritten.{start-before-end}
 

@@ -9,13 +9,14 @@ use Rattle.measure.specs.Allowances.{hatchwayAllowance, hatchwayExcess, ballast
 use Rattle.spaces.specs.Space.{mayTake}
 use Rattle.spaces.specs.Enclosure.{above}
 use Rattle.spaces.specs.Gross.{grossOver, gross, net, unjustified}
-use Rattle.sheet.specs.Sheet.{usable, blank}
+use Rattle.sheet.specs.Sheet.{standing, usable, blank}
 use Rattle.sheet.specs.Calls.{reported}
-use Rattle.sheet.specs.Resume.{recordNumber, resumed}
+use Rattle.sheet.specs.Resume.{recordNumber}
 use Rattle.sheet.specs.declared.sheet.Sheet.{Sheet}
 use Rattle.sheet.specs.declared.calls.Reported.{Reported}
+use Rattle.sheet_laws.proofs.Resumable.{resumable-exactly}
 use Rattle.dayfile.specs.Writing.{sheetBytes}
-use Rattle.dayfile_laws.proofs.Resumable.{Resumable, Writable, sheetWith}
+use Rattle.dayfile_laws.proofs.Writable.{ResumableSheet, Writable, sheetWith}
 use Rattle.dayfile_laws.proofs.WrittenRead.{length-bytes}
 
 -- "tonnage length 4800; space 1 the U above; 2 the S above; 3 a room in 1, standing 2 ..; 4 a room in 2, standing 3 ..; 5 a hatchway"
@@ -29,9 +30,14 @@ wholeSheet =
     ∷ record { id = 5; within = 0; kind = 4; standing = 0; tonnage = 100; length = 500 }
     ∷ [])
 
-resumes : Resumable wholeSheet
-unfolding within kindOf mayTake above blank recordNumber resumed
-resumes = record { places = refl; resumes = refl }
+resumes : ResumableSheet wholeSheet
+unfolding within kindOf mayTake above blank recordNumber
+resumes =
+    record {
+      places = refl;
+      length-in-range = refl;
+      resumable = resumable-exactly 4800 (standing wholeSheet) .0 refl;
+    }
 
 -- "GROSS 124.39", "NET 121.19"
 pub whole-report : reported wholeSheet 0 ≡ record { number = 0; gross = 12439; net = 12119; sheet = wholeSheet }
@@ -39,7 +45,7 @@ unfolding nearest hatchwayAllowance hatchwayExcess ballastOver grossOver gross n
 whole-report = refl
 
 pub whole-sheet-writable : Writable wholeSheet 0
-whole-sheet-writable = record { resumable = resumes; reports = ap (λ (r : Reported). r .number) whole-report }
+whole-sheet-writable = record { sheet = resumes; reports = ap (λ (r : Reported). r .number) whole-report }
 
 pub bytes-108 : length (sheetBytes wholeSheet 0) ≡ 108
 bytes-108 = length-bytes wholeSheet 0 whole-sheet-writable

@@ -1,8 +1,8 @@
--- The numbers of records that `resume` accepts all fit the fields of the file. Stands on Records, Resumable.
+-- The numbers of records that `resume` accepts all fit the fields of the file. Stands on Records.
 use Prim.Native.Nat.{ℕ, zero, suc, _*_, _≤_}
-use mathlib.Core.Path.{_≡_, refl, ap, _∙_}
+use mathlib.Core.Path.{_≡_, refl, ap}
 use mathlib.Core.Bool.{true, false, not, _||_}
-use mathlib.Core.List.{List, [], _∷_, _++_, List·Memᴰ·head, List·Memᴰ·tail}
+use mathlib.Core.List.{List}
 use native.Mathlib.Nat.{le-trans}
 use native.Mathlib.Omega.{arith}
 use borrow.Author.Tests.{not-false, ltb-true, ltb-false, leb-true, eqb-true}
@@ -24,11 +24,11 @@ use Rattle.spaces_laws.proofs.Tests.{or-fails, and-fails}
 use Rattle.spaces_laws.proofs.Lists.{_∈_, found-stands}
 use Rattle.spaces_laws.proofs.Valid.{Sound, valid-is-sound}
 use Rattle.spaces_laws.proofs.Report.{net-at-most-gross, gross-bounded}
-use Rattle.sheet.specs.Resume.{misrecorded, firstRefused}
+use Rattle.sheet.specs.Resume.{misrecorded}
+use Rattle.sheet_laws.proofs.Resumable.{Resumable}
 use Rattle.dayfile.specs.Record.{recordFields, numbersOf}
 use Rattle.dayfile_laws.proofs.Fields.{InFields, fitting-of}
 use Rattle.dayfile_laws.proofs.Records.{Fits}
-use Rattle.dayfile_laws.proofs.Resumable.{RecordsAccepted, first-passed, is-valid}
 
 -- the lengths of every kind
 every-length : (k : Kind) → (1 ≤ lengths k .least) × (lengths k .most ≤ 150000)
@@ -77,18 +77,14 @@ record-facts x e =
       no-enclosing-id = λ f. eqb-true _ 0 (not-false _ (and-fails (not (isRoom x)) _ (a .1) (ap not f)));
     }
 
-rightly-recorded : (L : ℕ) (before xs : List Space) → firstRefused L before xs .number ≡ 0 → {y : Space} → y ∈ xs → RightlyRecorded y
-rightly-recorded L before (x ∷ xs) e {y} (List·Memᴰ·head same) = record-facts y (ap misrecorded same ∙ first-passed L before x xs e .0)
-rightly-recorded L before (x ∷ xs) e {y} (List·Memᴰ·tail m) = rightly-recorded L (before ++ (x ∷ [])) xs (first-passed L before x xs e .2) m
-
 -- ---- all numbers of records that are accepted
 
-module _ {L : ℕ} {xs : List Space} (a : RecordsAccepted L xs) where
+module _ {L : ℕ} {xs : List Space} (a : Resumable L xs) where
   sound : Sound L xs
-  sound = valid-is-sound (is-valid a)
+  sound = valid-is-sound (a .valid)
 
   recorded : {y : Space} → y ∈ xs → RightlyRecorded y
-  recorded m = rightly-recorded L [] xs (a .none-refused) m
+  recorded {y} m = record-facts y (a .well-recorded y m)
 
   -- an enclosing id is that of a space that stands, or 0
   enclosing-id-at-most : {y : Space} → y ∈ xs → y .within ≤ 9999
@@ -121,7 +117,7 @@ module _ {L : ℕ} {xs : List Space} (a : RecordsAccepted L xs) where
 
   -- 200 times 100,000,000 is far below 2 ^ 64
   pub gross-at-most : gross xs ≤ 200 * mostTons
-  gross-at-most = gross-bounded (is-valid a) (λ y m. recorded m .tonnage-at-most)
+  gross-at-most = gross-bounded (a .valid) (λ y m. recorded m .tonnage-at-most)
 
   pub net-at-most : net xs ≤ 200 * mostTons
   net-at-most = le-trans (net-at-most-gross xs) gross-at-most

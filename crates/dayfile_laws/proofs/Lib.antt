@@ -2,7 +2,7 @@
 pub mod Numbers
 pub mod Fields
 pub mod Records
-pub mod Resumable
+pub mod Writable
 pub mod Fitting
 pub mod Writing
 pub mod WrittenRead

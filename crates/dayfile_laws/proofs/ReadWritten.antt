@@ -1,4 +1,4 @@
--- Read, then written: a sheet that was read has exactly the bytes it was read from. Stands on Records, Resumable, Writing.
+-- Read, then written: a sheet that was read has exactly the bytes it was read from. Stands on Records, WrittenRead, Writing.
 use Prim.Native.Nat.{ℕ, zero, suc, _+_, _*_, _-_, _≤_, _<_}
 use mathlib.Core.Path.{_≡_, refl, sym, ap, _∙_}
 use mathlib.Core.Bool.{Bool, false, not, _||_}
@@ -15,9 +15,10 @@ use Rattle.spaces.proofs.laws.Cases.{by-test}
 use Rattle.spaces_laws.proofs.Tests.{or-fails}
 use Rattle.sheet.specs.Sheet.{standing}
 use Rattle.sheet.specs.Calls.{reported}
-use Rattle.sheet.specs.Resume.{firstRefused, resumed}
+use Rattle.sheet.specs.Resume.{firstRefused}
 use Rattle.sheet.specs.declared.sheet.Sheet.{Sheet}
 use Rattle.sheet.proofs.laws.Calls.{passed}
+use Rattle.sheet_laws.proofs.Resumable.{resumable-exactly}
 use Rattle.dayfile.specs.Numbers.{Bytes}
 use Rattle.dayfile.specs.Record.{recordSize, records, recordsIn, spacesOf}
 use Rattle.dayfile.specs.Trailer.{trailerSize, sheetSize, trailerBytes}
@@ -27,7 +28,7 @@ use Rattle.dayfile.proofs.laws.Trailer.{tonnage-length-fits}
 use Rattle.dayfile.proofs.laws.Writing.{trailer-is}
 use Rattle.dayfile.proofs.laws.Reading.{Framed, framed, count-fits, judged}
 use Rattle.dayfile_laws.proofs.Records.{records-written, trailer-written}
-use Rattle.dayfile_laws.proofs.Resumable.{Resumable, Writable, standing-same, length-same, has-200-places, made-again, resumed-of}
+use Rattle.dayfile_laws.proofs.Writable.{ResumableSheet, Writable, standing-same, length-same, has-200-places, made-again}
 use Rattle.dayfile_laws.proofs.Writing.{after-report, Puts, puts-its-bytes}
 use Rattle.dayfile_laws.proofs.WrittenRead.{asRead, has-places, written-then-read}
 
@@ -104,7 +105,7 @@ module _ (file : List ℕ) (a : ReadingAccepted file) where
       (sym (a .net-is))
 
   -- `resume` accepts what was read
-  read-resumes : Resumable (sheetIn file)
+  read-resumes : ResumableSheet (sheetIn file)
   unfolding sheetIn faultIn
   read-resumes =
       let L = lastTrailer file .«tonnage_length» in
@@ -114,10 +115,8 @@ module _ (file : List ℕ) (a : ReadingAccepted file) where
       let fits = tonnage-length-fits (drop (length file - trailerSize) file) (frame .right) in
       record {
         places = has-200-places L (spacesOf all) (omega (arith, count-is, few));
-        resumes =
-            ap (λ (l : ℕ). resumed l (standing (sheetIn file)) .number) (length-same L (spacesOf all))
-            ∙ ap (λ (xs : List Space). resumed L xs .number) standing-is
-            ∙ resumed-of L (spacesOf all) (record { length-in-range = fits; none-refused = none });
+        length-in-range = rw (length-same L (spacesOf all)) fits;
+        resumable = rw (length-same L (spacesOf all), standing-same L (spacesOf all)) (resumable-exactly L (spacesOf all) .0 none);
       }
 
   bytes-same : Bytes file → sheetBytes (sheetIn file) (lastTrailer file .justified) ≡ drop (startOf file) file
@@ -151,7 +150,7 @@ module _ (file : List ℕ) (read : readOf file .number ≡ 0) where
 
   -- what was read can be written
   pub read-is-writable : Writable (readOf file .sheet) (readOf file .justified)
-  read-is-writable = rw (known .reading-is) (record { resumable = read-resumes file known; reports = known .reports })
+  read-is-writable = rw (known .reading-is) (record { sheet = read-resumes file known; reports = known .reports })
 
   -- its bytes are those it was read from, up to the end of the file
   pub read-then-written : Bytes file → sheetBytes (readOf file .sheet) (readOf file .justified) ≡ drop (readOf file .start) file

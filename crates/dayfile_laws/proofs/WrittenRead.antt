@@ -18,6 +18,7 @@ use Rattle.sheet.specs.Resume.{firstRefused}
 use Rattle.sheet.specs.declared.sheet.Sheet.{Sheet}
 use Rattle.sheet.proofs.laws.Sheet.{usable-counts}
 use Rattle.sheet.proofs.laws.Report.{Given, given}
+use Rattle.sheet_laws.proofs.Resumable.{Resumable, resumable-exactly}
 use Rattle.dayfile.specs.Fields.{fitting}
 use Rattle.dayfile.specs.Record.{numbersOf, records, recordsIn, spacesOf}
 use Rattle.dayfile.specs.Trailer.{trailerFields, trailerSize, sheetSize, numbersOfTrailer, trailerNumbers, trailerRight, trailerOf, trailerBytes}
@@ -29,7 +30,7 @@ use Rattle.dayfile.proofs.laws.Writing.{length-trailer, length-sheet}
 use Rattle.dayfile.proofs.laws.Reading.{by-distance, judged, read-judged, same-figures}
 use Rattle.dayfile_laws.proofs.Fields.{InFields, fitting-of}
 use Rattle.dayfile_laws.proofs.Records.{Fits, records-read, spaces-of-numbers, trailer-read}
-use Rattle.dayfile_laws.proofs.Resumable.{Resumable, Writable, sheetWith, standing-same, length-same, is-usable, same-report, none-open, RecordsAccepted, records-accepted}
+use Rattle.dayfile_laws.proofs.Writable.{ResumableSheet, Writable, sheetWith, standing-same, length-same, is-usable, same-report, none-open}
 use Rattle.dayfile_laws.proofs.Fitting.{in-range, each-fits, gross-at-most, net-at-most}
 use Rattle.dayfile_laws.proofs.Writing.{placed-up-to, write-accepted}
 
@@ -61,11 +62,11 @@ module _ (s : Sheet) (justified : ℕ) (w : Writable s justified) where
   few : s .count ≤ 200
   few = usable-counts s (report-given .is-usable) .places
 
-  taken : RecordsAccepted (s .length) (standing s)
-  taken = records-accepted (s .length) (standing s) (w .resumable .resumes)
+  taken : Resumable (s .length) (standing s)
+  taken = w .sheet .resumable
 
   pub has-places : s .count ≤ length (s .spaces)
-  has-places = omega (arith, few, w .resumable .places)
+  has-places = omega (arith, few, w .sheet .places)
 
   length-standing : length (standing s) ≡ s .count
   length-standing = length-take-le (s .count) (s .spaces) has-places
@@ -78,7 +79,7 @@ module _ (s : Sheet) (justified : ℕ) (w : Writable s justified) where
 
   trailer-fits : fitting trailerFields (numbersOfTrailer (trailerFor s justified)) ≡ true
   trailer-fits =
-      let l = in-range _ (s .length) (taken .length-in-range) in
+      let l = in-range _ (s .length) (w .sheet .length-in-range) in
       let facts : InFields trailerFields (numbersOfTrailer (trailerFor s justified)) =
       omega (arith, few, report-given .marked, l .0, l .1, gross-at-most taken, net-at-most taken) in
       fitting-of trailerFields (numbersOfTrailer (trailerFor s justified)) facts
@@ -138,7 +139,7 @@ module _ (s : Sheet) (justified : ℕ) (w : Writable s justified) where
     no-fault =
         ap (λ t. firstFaulty (t .«tonnage_length») [] (lastRecords file)) trailer-is
         ∙ ap (firstFaulty (s .length) []) records-are
-        ∙ none-faulty (s .length) (standing s) (each-fits taken) (taken .none-refused)
+        ∙ none-faulty (s .length) (standing s) (each-fits taken) (resumable-exactly (s .length) (standing s) .1 taken)
 
     sheet-is : sheetIn file ≡ asRead s
     unfolding sheetIn
@@ -192,11 +193,11 @@ read-back s justified w pre =
 -- ---- in any buffer
 
 -- what an accepted write leaves up to its end is read, and starts at the named place
-pub written-anywhere : (s : Sheet) (justified at : ℕ) (buffer : List ℕ) → Resumable s → written s justified (length buffer) at .number ≡ 0
+pub written-anywhere : (s : Sheet) (justified at : ℕ) (buffer : List ℕ) → ResumableSheet s → written s justified (length buffer) at .number ≡ 0
     → readOf (take (at + written s justified (length buffer) at .bytes) (writtenInto s justified at buffer)) ≡ acceptedReading (asRead s) justified at
-written-anywhere s justified at buffer resumable e =
+written-anywhere s justified at buffer whole e =
     let a = write-accepted s justified at buffer e in
-    let w : Writable s justified = record { resumable = resumable; reports = a .reports } in
+    let w : Writable s justified = record { sheet = whole; reports = a .reports } in
     let size : length (sheetBytes s justified) ≡ sheetSize (s .count) = length-bytes s justified w in
     let room : at + length (sheetBytes s justified) ≤ length buffer = omega (arith, a .room) in
     ap readOf
