@@ -18,7 +18,7 @@ use Rattle.sheet.specs.Calls.{reported}
 use Rattle.sheet.specs.Resume.{firstRefused}
 use Rattle.sheet.specs.declared.sheet.Sheet.{Sheet}
 use Rattle.sheet.proofs.laws.Calls.{passed}
-use Rattle.sheet_laws.proofs.Resumable.{resumable-exactly}
+use Rattle.sheet_laws.proofs.Resumable.{resumable-exactly, OfRecords}
 use Rattle.dayfile.specs.Numbers.{Bytes}
 use Rattle.dayfile.specs.Record.{recordSize, records, recordsIn, spacesOf}
 use Rattle.dayfile.specs.Trailer.{trailerSize, sheetSize, trailerBytes}
@@ -182,6 +182,12 @@ module _ (file : List ℕ) (read : readOf file .number ≡ 0) where
   read-again : asRead (readOf file .sheet) ≡ readOf file .sheet
   unfolding sheetIn
   read-again = rw (known .reading-is) (made-again (lastTrailer file .«tonnage_length») (spacesOf (lastRecords file)))
+
+  -- what was read is the sheet of its records, with no open changes
+  pub read-of-records : OfRecords (readOf file .sheet .length) (standing (readOf file .sheet)) (readOf file .sheet)
+  read-of-records =
+      let s = read-is-writable .sheet in
+      record { length-in-range = s .length-in-range; resumable = s .resumable; sheet-is = sym read-again }
 
   -- "bytes before it don't matter": behind any others it is read the same
   pub bytes-before : Bytes file → (pre : List ℕ)

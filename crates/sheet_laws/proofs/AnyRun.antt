@@ -6,25 +6,21 @@ use mathlib.Core.Path.{_≡_, refl, sym, ap, _∙_}
 use mathlib.Core.Bool.{true}
 use mathlib.Core.List.{List, []}
 use native.Mathlib.Omega.{arith}
-use borrow.Author.Tests.{eqb-true, eqb-false}
-use lib.Dec.{eqb}
-use Rattle.measure.specs.Ranges.{within, tonnageLengths}
 use Rattle.spaces.specs.declared.space.Space.{Space}
 use Rattle.spaces.specs.declared.sums.Amount.the-variants.{Deducted}
 use Rattle.spaces.specs.Row.{sumOf}
 use Rattle.spaces.specs.Valid.{Valid}
-use Rattle.spaces.proofs.laws.Cases.{by-test}
 use Rattle.spaces_laws.proofs.Twice.{neither-above-the-other, taken-off-at-most-whole}
 use Rattle.spaces_laws.proofs.Report.{report-exact, net-at-most-gross}
 use Rattle.sheet.specs.Sheet.{standing, blank}
 use Rattle.sheet.specs.Changes.{withStanding}
 use Rattle.sheet.specs.Calls.{openedWith, reported}
-use Rattle.sheet.specs.Resume.{firstRefused, resumed}
+use Rattle.sheet.specs.Resume.{resumed}
 use Rattle.sheet.specs.declared.sheet.Sheet.{Sheet}
 use Rattle.sheet.proofs.laws.Report.{given}
 use Rattle.sheet_laws.specs.Run.{after}
 use Rattle.sheet_laws.specs.Holds.{Within, AfterAnyRun}
-use Rattle.sheet_laws.proofs.Resumable.{Resumable, resumable-exactly}
+use Rattle.sheet_laws.proofs.Resumable.{Resumable, resumable-exactly, OfRecords, opened-of-records, resumed-of-records}
 use Rattle.sheet_laws.proofs.Runs.{history-after-any-run}
 use Rattle.sheet_laws.proofs.Accepted.{paper-rules}
 
@@ -40,36 +36,24 @@ given-within s v justified z =
     }
 
 -- from the sheet of some recorded spaces, each accepted in order
-pub after-any-run-from-records : (L : ℕ) (records : List Space) → firstRefused L [] records .number ≡ 0
-    → AfterAnyRun L records (withStanding records (blank true L))
-after-any-run-from-records L records e calls =
-    let r = resumable-exactly L records .0 e in
-    let (history, now) = history-after-any-run Resumable paper-rules L records r calls in
+pub after-any-run-from-records : {L : ℕ} {records : List Space} {first : Sheet} → OfRecords L records first → AfterAnyRun L records first
+after-any-run-from-records {L} {records} o calls =
+    let (history, now) = history-after-any-run Resumable paper-rules L records (o .resumable) calls in
     let v = now .valid in
-    record {
+    rw (o .sheet-is)
+    (record {
       history = history;
       none-refused = resumable-exactly L _ .1 now;
       neither-above = λ y z m n p q. neither-above-the-other v m n p q;
       taken-off-at-most-whole = taken-off-at-most-whole v;
       report-within = given-within (after calls (withStanding records (blank true L))) v;
-    }
+    })
 
--- from one just opened, on which nothing stands
+-- so from one just opened, on which nothing stands
 pub after-any-run-from-opened : (L : ℕ) → openedWith L .number ≡ 0 → AfterAnyRun L [] (openedWith L .sheet)
-unfolding openedWith blank
-after-any-run-from-opened L z =
-    by-test (within tonnageLengths L)
-    (λ t. rw t (after-any-run-from-records L [] refl))
-    (λ f. let two : _≡_ {A = ℕ} 2 0 = rw f at z in absurd (omega arith))
+after-any-run-from-opened L z = after-any-run-from-records (opened-of-records L z)
 
--- and from one just read or resumed, on which its records stand
+-- and from one just resumed, on which its records stand
 pub after-any-run-from-resumed : (L : ℕ) (records : List Space) → resumed L records .number ≡ 0
     → AfterAnyRun L records (resumed L records .sheet)
-unfolding resumed
-after-any-run-from-resumed L records z =
-    by-test (within tonnageLengths L)
-    (λ t.
-    by-test (eqb (firstRefused L [] records .number) 0)
-    (λ u. rw (t, u) (after-any-run-from-records L records (eqb-true _ _ u)))
-    (λ f. absurd (eqb-false _ _ f (rw (t, f) at z))))
-    (λ f. let two : _≡_ {A = ℕ} 2 0 = rw f at z in absurd (omega arith))
+after-any-run-from-resumed L records z = after-any-run-from-records (resumed-of-records L records z)

@@ -25,8 +25,11 @@ use Rattle.spaces_laws.proofs.Valid.{valid-entered}
 use Rattle.spaces_laws.proofs.Changes.{without, marking, marked}
 use Rattle.spaces_laws.proofs.Withdraw.{withdrawal-by-id-keeps-valid}
 use Rattle.spaces_laws.proofs.Mark.{mark-by-id-keeps-valid}
-use Rattle.sheet.specs.Calls.{entryOf}
-use Rattle.sheet.specs.Resume.{misrecorded, recordNumber, firstRefused}
+use Rattle.sheet.specs.Sheet.{blank}
+use Rattle.sheet.specs.Changes.{withStanding}
+use Rattle.sheet.specs.Calls.{openedWith, entryOf}
+use Rattle.sheet.specs.Resume.{misrecorded, recordNumber, firstRefused, resumed}
+use Rattle.sheet.specs.declared.sheet.Sheet.{Sheet}
 use Rattle.sheet.specs.declared.calls.Entry.{Entry}
 use Rattle.sheet.proofs.laws.Calls.{passes, passed}
 
@@ -65,6 +68,32 @@ resumable-exactly L xs = (
   λ e. let r = all-accepted L [] xs e in record { valid = r .0; well-recorded = r .1 },
   λ r. none-refused (r .valid) (r .well-recorded),
 )
+
+-- ---- a sheet of recorded spaces, on which no change is open yet
+
+pub record OfRecords (L : ℕ) (records : List Space) (s : Sheet) : Type 0 where
+  pub length-in-range : within tonnageLengths L ≡ true
+  pub resumable : Resumable L records
+  pub sheet-is : s ≡ withStanding records (blank true L)
+
+-- one just opened, on which nothing stands
+pub opened-of-records : (L : ℕ) → openedWith L .number ≡ 0 → OfRecords L [] (openedWith L .sheet)
+unfolding openedWith blank
+opened-of-records L z =
+    by-test (within tonnageLengths L)
+    (λ t. record { length-in-range = t; resumable = resumable-exactly L [] .0 refl; sheet-is = rw t })
+    (λ f. let two : _≡_ {A = ℕ} 2 0 = rw f at z in absurd (omega arith))
+
+-- and one resumed, on which its records stand
+pub resumed-of-records : (L : ℕ) (records : List Space) → resumed L records .number ≡ 0 → OfRecords L records (resumed L records .sheet)
+unfolding resumed
+resumed-of-records L records z =
+    by-test (within tonnageLengths L)
+    (λ t.
+    by-test (eqb (firstRefused L [] records .number) 0)
+    (λ u. record { length-in-range = t; resumable = resumable-exactly L records .0 (eqb-true _ _ u); sheet-is = rw (t, u) })
+    (λ f. absurd (eqb-false _ _ f (rw (t, f) at z))))
+    (λ f. let two : _≡_ {A = ℕ} 2 0 = rw f at z in absurd (omega arith))
 
 -- ---- the changes: each keeps the sheet valid, and makes no record that isn't well recorded
 

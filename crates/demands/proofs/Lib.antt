@@ -1,0 +1,3 @@
+-- The three demands, each a module that begins with the asker's words. Read from top to bottom.
+pub mod Reached
+pub mod Demand3
