@@ -173,13 +173,11 @@ pub record ReadBack (s : Sheet) (justified start : ℕ) (r : Reading) : Type 0 w
   -- "where the sheet starts"
   pub starts : r .start ≡ start
 
-pub read-back : (s : Sheet) (justified : ℕ) → Writable s justified → (pre : List ℕ)
-    → ReadBack s justified (length pre) (readOf (pre ++ sheetBytes s justified))
-read-back s justified w pre =
+pub has-read-back : (s : Sheet) (justified start : ℕ) → Writable s justified → ReadBack s justified start (acceptedReading (asRead s) justified start)
+has-read-back s justified start w =
     let L = s .length in
     let xs = standing s in
-    rw (written-then-read s justified w pre)
-    (record {
+    record {
       accepted = refl;
       same-spaces = standing-same L xs;
       same-length = length-same L xs;
@@ -188,7 +186,11 @@ read-back s justified w pre =
       none-undoable = none-open L xs (at-most-200 s justified w) .0;
       none-redoable = none-open L xs (at-most-200 s justified w) .1;
       starts = refl;
-    })
+    }
+
+pub read-back : (s : Sheet) (justified : ℕ) → Writable s justified → (pre : List ℕ)
+    → ReadBack s justified (length pre) (readOf (pre ++ sheetBytes s justified))
+read-back s justified w pre = rw (written-then-read s justified w pre) (has-read-back s justified (length pre) w)
 
 -- ---- in any buffer
 

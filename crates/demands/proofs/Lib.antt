@@ -1,3 +1,4 @@
 -- The three demands, each a module that begins with the asker's words. Read from top to bottom.
 pub mod Reached
+pub mod Demand2
 pub mod Demand3

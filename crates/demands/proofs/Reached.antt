@@ -9,9 +9,11 @@ use Rattle.sheet.specs.Calls.{openedWith}
 use Rattle.sheet.specs.Resume.{resumed}
 use Rattle.sheet.specs.declared.sheet.Sheet.{Sheet}
 use Rattle.sheet_laws.specs.Run.{Call, answer, after}
-use Rattle.sheet_laws.proofs.Resumable.{OfRecords, opened-of-records, resumed-of-records}
+use Rattle.sheet_laws.proofs.Resumable.{resumable-exactly, OfRecords, opened-of-records, resumed-of-records}
+use Rattle.sheet_laws.proofs.AnyRun.{after-any-run-from-records}
 use Rattle.dayfile.specs.Writing.{written}
 use Rattle.dayfile.specs.Reading.{readOf}
+use Rattle.dayfile_laws.proofs.Writable.{ResumableSheet}
 use Rattle.dayfile_laws.proofs.ReadWritten.{read-of-records}
 
 -- a sheet just opened, just read from any bytes, or just made of recorded spaces: L is its tonnage length, and the spaces `start` stand
@@ -51,10 +53,23 @@ begun-of-records (opened L z) = opened-of-records L z
 begun-of-records (read file z) = read-of-records file z
 begun-of-records (ofRecords L records z) = resumed-of-records L records z
 
--- and writes leave the sheet to the other calls
+-- writes leave the sheet to the other calls
 
 pub writes-change-nothing : (calls : List DayCall) (s : Sheet) → afterDay calls s ≡ after (withoutWrites calls) s
 unfolding written
 writes-change-nothing [] s = refl
 writes-change-nothing (call c ∷ calls) s = writes-change-nothing calls (answer c s .sheet)
 writes-change-nothing (write justified size at ∷ calls) s = writes-change-nothing calls s
+
+-- after any calls its spaces are still all accepted as records, in order, on the 200 places of an open sheet
+pub reached-resumable : {s : Sheet} → Reached s → ResumableSheet s
+reached-resumable (reached {L = L} {first = first} begun calls) =
+    let o = begun-of-records begun in
+    let h = after-any-run-from-records o (withoutWrites calls) in
+    let long = h .history .length-kept in
+    rw (writes-change-nothing calls first)
+    (record {
+      places = h .history .places;
+      length-in-range = rw long (o .length-in-range);
+      resumable = rw long (resumable-exactly L _ .0 (h .none-refused));
+    })

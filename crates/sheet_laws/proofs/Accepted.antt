@@ -26,7 +26,7 @@ use Rattle.sheet_laws.proofs.Resumable.{Resumable, resumable-entered, r
 
 -- ---- what the number 0 says: none of 1 to 3 applied, and none of the rules of what stands
 
-enter-accepted : (s : Sheet) (e : Entry) (hs bs : List ℕ) → entered s e hs bs .number ≡ 0
+pub enter-accepted : (s : Sheet) (e : Entry) (hs bs : List ℕ) → entered s e hs bs .number ≡ 0
     → (measuredFor s e hs bs .number ≡ 0) × (entryNumber (s .length) (standing s) (spaceOf (s .length) e hs bs) ≡ 0)
 unfolding entered entryNumber
 enter-accepted s e hs bs z =

@@ -45,7 +45,7 @@ pub record Rules (Allowed : ℕ → List Space → Type 0) : Type 0 where
 -- ---- what is handed back
 
 -- with the number 0, the sheet after the call
-handed-next : (n : ℕ) (s next : Sheet) → n ≡ 0 → answered n s next .sheet ≡ next
+pub handed-next : (n : ℕ) (s next : Sheet) → n ≡ 0 → answered n s next .sheet ≡ next
 handed-next n s next z = rw (eq-eqb n 0 z)
 
 handed-back : (n : ℕ) (s next : Sheet) → (n ≡ 0 → ⊥) → answered n s next .sheet ≡ s
