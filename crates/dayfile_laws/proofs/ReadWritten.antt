@@ -72,7 +72,7 @@ reading-accepted file e =
 
 -- ---- its sheet, and the bytes of it
 
-length-spaces : (n : ℕ) (bytes : List ℕ) → length (spacesOf (recordsIn n bytes)) ≡ n
+pub length-spaces : (n : ℕ) (bytes : List ℕ) → length (spacesOf (recordsIn n bytes)) ≡ n
 length-spaces zero bytes = refl
 length-spaces (suc n) bytes = ap suc (length-spaces n (drop recordSize bytes))
 

@@ -32,6 +32,11 @@ abbrev pub handedBack : DayCall → Sheet → Sheet
 handedBack (call c) s = answer c s .sheet
 handedBack (write justified size at) s = written s justified size at .sheet
 
+-- and answers a number
+abbrev pub numberOf : DayCall → Sheet → ℕ
+numberOf (call c) s = answer c s .number
+numberOf (write justified size at) s = written s justified size at .number
+
 abbrev pub afterDay : List DayCall → Sheet → Sheet
 afterDay [] s = s
 afterDay (c ∷ calls) s = afterDay calls (handedBack c s)

@@ -1,0 +1,229 @@
+-- Demand 1: "Every call ends and stays inside what it was lent, for any numbers and any file. Nobody has to check first. A refusal gives
+-- its number from the paper, changes neither sheet nor buffer, and is given exactly when the paper says."
+-- That every call ends and stays inside what it was lent is what the check proves of each function; and no public function has a
+-- `requires`, so nobody has to check first. Here is what the check doesn't say. Stands on Tests.
+use Prim.Native.Nat.{ℕ, _-_}
+use mathlib.Core.Path.{_≡_, refl, sym, ap, _∙_}
+use mathlib.Core.Bool.{Bool, true, false, cond, not, _&&_, _||_}
+use mathlib.Core.List.{List, [], _∷_, _++_}
+use native.Mathlib.Omega.{arith}
+use borrow.Author.Tests.{ne-eqb, eq-eqb, eqb-true, le-ltb}
+use lib.Dec.{eqb, ltb, lit<}
+use lib.ListN.{length, drop}
+use Rattle.measure.specs.Kinds.{kindOf}
+use Rattle.measure.specs.Ranges.{within, tonnageLengths}
+use Rattle.measure.specs.Refusals.{firstOf}
+use Rattle.measure.specs.Volumes.{hundredths}
+use Rattle.measure.specs.Offsets.{inRange, counted, measured}
+use Rattle.spaces.specs.Row.{sumOf}
+use Rattle.spaces.specs.Rules.{entryTests, withdrawTests, markTests}
+use Rattle.spaces.specs.Gross.{gross, net, unjustified}
+use Rattle.spaces.specs.declared.sums.Amount.the-variants.{Lengths}
+use Rattle.spaces.proofs.laws.Cases.{by-test}
+use Rattle.sheet.specs.Sheet.{standing, usable, blank}
+use Rattle.sheet.specs.Calls.{openedWith, entered, withdrawn, marked, undone, redone, reported}
+use Rattle.sheet.specs.declared.sheet.Sheet.{Sheet}
+use Rattle.sheet.specs.declared.calls.Entry.{Entry}
+use Rattle.sheet_laws.specs.Run.{spaceOf}
+use Rattle.sheet_laws.proofs.Runs.{refused-changes-nothing}
+use Rattle.dayfile.specs.Trailer.{sheetSize}
+use Rattle.dayfile.specs.Writing.{writeNumber, written, writtenInto}
+use Rattle.dayfile.specs.Record.{spacesOf}
+use Rattle.dayfile.specs.Reading.{lastNumbers, lastTrailer, startOf, lastRecords, noSheet, faultIn, sheetIn, readNumber, refusedReading, readOf}
+use Rattle.dayfile.proofs.laws.Trailer.{within-trailer}
+use Rattle.dayfile.proofs.laws.Reading.{framed, count-fits}
+use Rattle.dayfile_laws.proofs.Writable.{is-usable}
+use Rattle.dayfile_laws.proofs.ReadWritten.{length-spaces}
+use Rattle.demands.proofs.Reached.{DayCall, call, write, handedBack, numberOf}
+use Rattle.demands.proofs.Tests.{FirstGiven, LowestGiven, first-given, lowest-given, spliced, either}
+
+-- ---- the rows of "Numbers of refusal" that each call can be refused with. The conditions of entryTests (4 to 10), withdrawTests
+-- (5, 11) and markTests (5, 6, 8) are defined in spaces/specs/Rules, those of 16 and 17 in dayfile/specs/Reading.
+
+-- 2: the tonnage length is outside its range
+abbrev pub openTests : ℕ → List (Bool × ℕ)
+openTests L = (not (within tonnageLengths L), 2) ∷ []
+
+-- 1; 2: its standing, its kind or a measure is outside its range; 3: its offsets are not the number the rules ask; 4 to 10
+abbrev pub enterTests : Sheet → Entry → List ℕ → List ℕ → List (Bool × ℕ)
+enterTests s e heights breadths =
+    let k = kindOf (e .kind) in
+    let t = hundredths (s .length) in
+    let l = hundredths (e .length) in
+    (not (usable s), 1)
+    ∷ (ltb 3 (e .standing) || not (inRange k t l heights breadths), 2)
+    ∷ (not (counted k t l heights breadths), 3)
+    ∷ entryTests (s .length) (standing s) (spaceOf (s .length) e heights breadths)
+
+-- 1, 5, 11
+abbrev pub withdrawalTests : Sheet → ℕ → List (Bool × ℕ)
+withdrawalTests s id = (not (usable s), 1) ∷ withdrawTests (standing s) id
+
+-- 1; 2: the standing is outside its range; 5, 6, 8
+abbrev pub markingTests : Sheet → ℕ → ℕ → List (Bool × ℕ)
+markingTests s id standing' = (not (usable s), 1) ∷ (ltb 3 standing', 2) ∷ markTests (standing s) id standing'
+
+-- 1; 12: nothing undoable, or nothing redoable
+abbrev pub undoTests : Sheet → List (Bool × ℕ)
+undoTests s = (not (usable s), 1) ∷ (eqb (s .undoable) 0, 12) ∷ []
+
+abbrev pub redoTests : Sheet → List (Bool × ℕ)
+redoTests s = (not (usable s), 1) ∷ (eqb (s .redoable) 0, 12) ∷ []
+
+-- 13: "U lengths don't add up to the tonnage length"; 14: "ballast over 30%, not justified"
+abbrev pub lengthsShort : Sheet → Bool
+lengthsShort s = not (eqb (sumOf Lengths (standing s)) (s .length))
+
+abbrev pub ballastUnjustified : Sheet → ℕ → Bool
+ballastUnjustified s justified = unjustified (standing s) && eqb justified 0
+
+-- 1; 2: the justified mark is outside its range; 13, 14
+abbrev pub reportTests : Sheet → ℕ → List (Bool × ℕ)
+reportTests s justified =
+    (not (usable s), 1) ∷ (ltb 1 justified, 2) ∷ (lengthsShort s, 13) ∷ (ballastUnjustified s justified, 14) ∷ []
+
+-- the same, and 15: "buffer has too little room from the named place"
+abbrev pub writeTests : Sheet → ℕ → ℕ → ℕ → List (Bool × ℕ)
+writeTests s justified size at = reportTests s justified ++ ((ltb (size - at) (sheetSize (s .count)), 15) ∷ [])
+
+-- "except in reading: there 16, 17, 13, 14, 18 in that order"; 18: "gross or net isn't what the records give"
+abbrev pub readTests : List ℕ → List (Bool × ℕ)
+readTests file =
+    let s = sheetIn file in
+    let t = lastTrailer file in
+    (noSheet file, 16)
+    ∷ (not (eqb (faultIn file) 0), 17)
+    ∷ (lengthsShort s, 13)
+    ∷ (ballastUnjustified s (t .justified), 14)
+    ∷ (not (eqb (gross (standing s)) (t .gross)) || not (eqb (net (standing s)) (t .net)), 18)
+    ∷ []
+
+-- ---- "is given exactly when the paper says": for any sheet and any numbers
+
+pub open-refused : (L : ℕ) → LowestGiven (openTests L) (openedWith L .number)
+unfolding openedWith
+open-refused L =
+    let same : openedWith L .number ≡ firstOf (openTests L) = by-test (within tonnageLengths L) (λ t. rw t) (λ f. rw f) in
+    rw same (lowest-given (openTests L) (omega arith))
+
+pub enter-refused : (s : Sheet) (e : Entry) (heights breadths : List ℕ)
+    → LowestGiven (enterTests s e heights breadths) (entered s e heights breadths .number)
+unfolding entered measured
+enter-refused s e heights breadths =
+    let k = kindOf (e .kind) in
+    let t = hundredths (s .length) in
+    let l = hundredths (e .length) in
+    let out = not (inRange k t l heights breadths) in
+    let wrong = not (counted k t l heights breadths) in
+    let rest = entryTests (s .length) (standing s) (spaceOf (s .length) e heights breadths) in
+    let same : entered s e heights breadths .number ≡ firstOf (enterTests s e heights breadths) =
+    ap (λ (n : ℕ). cond (not (usable s)) 1 n)
+    (ap (λ (n : ℕ). cond (ltb 3 (e .standing)) 2 n) (spliced ((out, 2) ∷ (wrong, 3) ∷ []) rest (omega arith))
+    ∙ either (ltb 3 (e .standing)) out 2 ((wrong, 3) ∷ rest)) in
+    rw same (lowest-given (enterTests s e heights breadths) (omega arith))
+
+pub withdraw-refused : (s : Sheet) (id : ℕ) → LowestGiven (withdrawalTests s id) (withdrawn s id .number)
+unfolding withdrawn
+withdraw-refused s id = lowest-given (withdrawalTests s id) (omega arith)
+
+pub mark-refused : (s : Sheet) (id standing' : ℕ) → LowestGiven (markingTests s id standing') (marked s id standing' .number)
+unfolding marked
+mark-refused s id standing' = lowest-given (markingTests s id standing') (omega arith)
+
+pub undo-refused : (s : Sheet) → LowestGiven (undoTests s) (undone s .number)
+unfolding undone
+undo-refused s = lowest-given (undoTests s) (omega arith)
+
+pub redo-refused : (s : Sheet) → LowestGiven (redoTests s) (redone s .number)
+unfolding redone
+redo-refused s = lowest-given (redoTests s) (omega arith)
+
+pub report-refused : (s : Sheet) (justified : ℕ) → LowestGiven (reportTests s justified) (reported s justified .number)
+unfolding reported
+report-refused s justified = lowest-given (reportTests s justified) (omega arith)
+
+pub write-refused : (s : Sheet) (justified size at : ℕ) → LowestGiven (writeTests s justified size at) (written s justified size at .number)
+unfolding written writeNumber reported
+write-refused s justified size at =
+    let same : written s justified size at .number ≡ firstOf (writeTests s justified size at) =
+    spliced (reportTests s justified) ((ltb (size - at) (sheetSize (s .count)), 15) ∷ []) (omega arith) in
+    rw same (lowest-given (writeTests s justified size at) (omega arith))
+
+-- a report of the last sheet of a file is never refused with 1 or 2: 16 comes before
+module _ (file : List ℕ) (ends-in-sheet : noSheet file ≡ false) where
+  read-open : usable (sheetIn file) ≡ true
+  unfolding sheetIn
+  read-open =
+      let t = lastTrailer file in
+      is-usable (t .«tonnage_length») (spacesOf (lastRecords file))
+      (omega (arith, count-fits file ends-in-sheet, length-spaces (t .count) (drop (startOf file) file)))
+
+  mark-in-range : ltb 1 (lastTrailer file .justified) ≡ false
+  mark-in-range = le-ltb 1 (lastTrailer file .justified) (omega (arith, within-trailer (lastNumbers file) 2 (lit< tt) (framed file ends-in-sheet .right)))
+
+read-number : (file : List ℕ) → readNumber file ≡ firstOf (readTests file)
+unfolding readNumber reported
+read-number file =
+    let s = sheetIn file in
+    let t = lastTrailer file in
+    let figures = not (eqb (gross (standing s)) (t .gross)) || not (eqb (net (standing s)) (t .net)) in
+    by-test (noSheet file)
+    (λ e. rw e)
+    (λ e.
+    rw e
+    (ap (λ (n : ℕ). cond (not (eqb (faultIn file) 0)) 17 n)
+    (spliced (reportTests s (t .justified)) ((figures, 18) ∷ []) (omega arith) ∙ rw (read-open file e, mark-in-range file e))))
+
+answered-number : (file : List ℕ) → readOf file .number ≡ readNumber file
+unfolding readOf refusedReading
+answered-number file = by-test (eqb (readNumber file) 0) (λ t. rw t (sym (eqb-true _ _ t))) (λ f. rw f)
+
+pub read-refused : (file : List ℕ) → FirstGiven (readTests file) (readOf file .number)
+read-refused file = rw (answered-number file ∙ read-number file) (first-given (readTests file) (omega arith))
+
+-- ---- "changes neither sheet nor buffer"
+
+-- "A refused change, undo or redo hands back the sheet as it came", and so does every other refused call on a sheet
+pub refused-hands-back : (c : DayCall) (s : Sheet) → (numberOf c s ≡ 0 → ⊥) → handedBack c s ≡ s
+unfolding written
+refused-hands-back (call c) s refused = refused-changes-nothing c s refused
+refused-hands-back (write justified size at) s refused = refl
+
+-- "A refused report gives 0 and 0"
+pub refused-report-gives : (s : Sheet) (justified : ℕ) → (reported s justified .number ≡ 0 → ⊥)
+    → (reported s justified .gross ≡ 0) × (reported s justified .net ≡ 0)
+unfolding reported
+refused-report-gives s justified refused = let e = ne-eqb _ 0 refused in (rw e, rw e)
+
+-- "a refused write 0 bytes and an untouched buffer"
+pub refused-write-gives : (s : Sheet) (justified at : ℕ) (buffer : List ℕ) → (written s justified (length buffer) at .number ≡ 0 → ⊥)
+    → (written s justified (length buffer) at .bytes ≡ 0) × (writtenInto s justified at buffer ≡ buffer)
+unfolding written writtenInto
+refused-write-gives s justified at buffer refused = let e = ne-eqb _ 0 refused in (rw e, rw e)
+
+-- "A refused open .. hands back a sheet not open"
+pub refused-open-gives : (L : ℕ) → (openedWith L .number ≡ 0 → ⊥) → usable (openedWith L .sheet) ≡ false
+unfolding openedWith usable blank
+refused-open-gives L refused = by-test (within tonnageLengths L) (λ t. absurd (refused (rw t))) (λ f. rw f)
+
+-- "A refused .. read hands back a sheet not open, mark 0, start 0." "The position is 0 for every number but 17."
+pub record NothingRead (file : List ℕ) : Type 0 where
+  pub not-open : usable (readOf file .sheet) ≡ false
+  pub mark-0 : readOf file .justified ≡ 0
+  pub start-0 : readOf file .start ≡ 0
+  pub position-with-17 : readOf file .number ≡ 17 → readOf file .position ≡ faultIn file
+  pub position-0 : (readOf file .number ≡ 17 → ⊥) → readOf file .position ≡ 0
+
+pub refused-read-gives : (file : List ℕ) → (readOf file .number ≡ 0 → ⊥) → NothingRead file
+unfolding readOf refusedReading usable blank
+refused-read-gives file refused =
+    by-test (eqb (readNumber file) 0)
+    (λ t. absurd (refused (rw t)))
+    (λ f.
+    record {
+      not-open = rw f;
+      mark-0 = rw f;
+      start-0 = rw f;
+      position-with-17 = λ e. rw (f, eq-eqb (readNumber file) 17 (sym (answered-number file) ∙ e));
+      position-0 = λ e. rw (f, ne-eqb (readNumber file) 17 (λ q. e (answered-number file ∙ q)));
+    })

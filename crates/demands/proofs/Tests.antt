@@ -1,0 +1,111 @@
+-- "The lowest number that applies is given", as one law over every list of numbered tests. Stands on measure_laws, Refusals.
+use Prim.Native.Nat.{ℕ, _<_, _≤_}
+use mathlib.Core.Path.{_≡_, refl}
+use mathlib.Core.Logic.{_↔_, ⊎-elim}
+use mathlib.Core.Bool.{Bool, true, false, not, _||_}
+use mathlib.Core.List.{List, [], _∷_, _++_}
+use native.Mathlib.Omega.{arith}
+use borrow.Author.Tests.{ne-eqb, eqb-true, eqb-false}
+use lib.Dec.{eqb}
+use Rattle.measure.specs.Refusals.{firstOf, Refuse, here, later, Accept}
+use Rattle.measure_laws.proofs.Refusals.{refused-with, accepted, judged}
+use Rattle.spaces.proofs.laws.Cases.{by-test}
+use Rattle.spaces_laws.proofs.Refusals.{Numbered}
+
+-- ---- the statements
+
+-- "in that order": refused with n exactly when test n applies and none before it, accepted exactly when none applies
+pub record FirstGiven (tests : List (Bool × ℕ)) (number : ℕ) : Type 0 where
+  pub refused-exactly : (n : ℕ) → 0 < n → (number ≡ n) ↔ Refuse tests n
+  pub accepted-exactly : (number ≡ 0) ↔ Accept tests
+
+-- the condition of number n holds
+pub data Applies : List (Bool × ℕ) → ℕ → Type 0 where
+  first : {n : ℕ} {tests : List (Bool × ℕ)} → Applies ((true, n) ∷ tests) n
+  further : {test : Bool × ℕ} {tests : List (Bool × ℕ)} {n : ℕ} → Applies tests n → Applies (test ∷ tests) n
+
+-- "The lowest number that applies": refused with n exactly when condition n holds and no lower one does, accepted exactly when none does
+pub record LowestGiven (tests : List (Bool × ℕ)) (number : ℕ) : Type 0 where
+  pub refused-exactly : (n : ℕ) → 0 < n → (number ≡ n) ↔ (Applies tests n × ((k : ℕ) → k < n → Applies tests k → ⊥))
+  pub accepted-exactly : (number ≡ 0) ↔ ((k : ℕ) → Applies tests k → ⊥)
+
+-- the numbers of the tests ascend, each over the one before it
+abbrev pub AscendFrom : ℕ → List (Bool × ℕ) → Type 0
+AscendFrom below [] = Unit {0}
+AscendFrom below (test ∷ tests) = (below < test .1) × AscendFrom (test .1) tests
+
+-- ---- in their order
+
+numbered-refusal : {tests : List (Bool × ℕ)} {n : ℕ} → Numbered tests → Refuse tests n → 0 < n
+numbered-refusal numbered here = numbered .0
+numbered-refusal numbered (later r) = numbered-refusal (numbered .1) r
+
+pub first-given : (tests : List (Bool × ℕ)) → Numbered tests → FirstGiven tests (firstOf tests)
+first-given tests numbered =
+    record {
+      refused-exactly = λ n some. (
+        λ e. ⊎-elim (λ (a : Accept tests). absurd (omega (arith, accepted a))) (λ (r : Refuse tests (firstOf tests)). rw e at r) (judged tests),
+        λ r. refused-with r,
+      );
+      accepted-exactly = (
+        λ e. ⊎-elim (λ (a : Accept tests). a) (λ (r : Refuse tests (firstOf tests)). absurd (omega (arith, numbered-refusal numbered r))) (judged tests),
+        λ a. accepted a,
+      );
+    }
+
+-- ---- the lowest
+
+refusal-applies : {tests : List (Bool × ℕ)} {n : ℕ} → Refuse tests n → Applies tests n
+refusal-applies here = first
+refusal-applies (later r) = further (refusal-applies r)
+
+-- a number that is given applies
+given-applies : (tests : List (Bool × ℕ)) → 0 < firstOf tests → Applies tests (firstOf tests)
+given-applies tests some =
+    ⊎-elim (λ (a : Accept tests). absurd (omega (arith, accepted a))) (λ (r : Refuse tests (firstOf tests)). refusal-applies r) (judged tests)
+
+-- and is at most any that applies, where the numbers ascend
+at-most-any : {tests : List (Bool × ℕ)} {k : ℕ} (below : ℕ) → AscendFrom below tests → Applies tests k → (below < firstOf tests) × (firstOf tests ≤ k)
+at-most-any below ascend first = omega arith
+at-most-any below ascend (further {test = test} {tests = tests} a) =
+    let rest = at-most-any (test .1) (ascend .1) a in
+    by-test (test .0) (λ t. rw t (omega arith)) (λ f. rw f (omega arith))
+
+pub lowest-given : (tests : List (Bool × ℕ)) → AscendFrom 0 tests → LowestGiven tests (firstOf tests)
+lowest-given tests ascend =
+    record {
+      refused-exactly = λ n some. (
+        λ e. (rw e at (given-applies tests (omega arith)), λ k lower a. omega (arith, at-most-any 0 ascend a)),
+        λ h. exactly n (h .0) (h .1),
+      );
+      accepted-exactly = (
+        λ e k a. omega (arith, at-most-any 0 ascend a),
+        λ none. by-test (eqb (firstOf tests) 0) (eqb-true _ _) (λ f. absurd (none (firstOf tests) (given-applies tests (positive (eqb-false _ _ f))))),
+      );
+    }
+  where
+    positive : (firstOf tests ≡ 0 → ⊥) → 0 < firstOf tests
+    positive f = omega arith
+
+    exactly : (n : ℕ) → Applies tests n → ((k : ℕ) → k < n → Applies tests k → ⊥) → firstOf tests ≡ n
+    exactly n a none-lower =
+        let bounds = at-most-any 0 ascend a in
+        by-test (eqb (firstOf tests) n) (eqb-true _ _) (λ f. absurd (none-lower (firstOf tests) (less (eqb-false _ _ f)) (given-applies tests (bounds .0))))
+      where
+        less : (firstOf tests ≡ n → ⊥) → firstOf tests < n
+        less f = omega (arith, at-most-any 0 ascend a)
+
+-- ---- lists inside lists
+
+-- a test that gives the number of other tests, where one of them applies, is those tests
+pub spliced : (tests rest : List (Bool × ℕ)) → Numbered tests → firstOf ((not (eqb (firstOf tests) 0), firstOf tests) ∷ rest) ≡ firstOf (tests ++ rest)
+spliced [] rest numbered = refl
+spliced (test ∷ tests) rest numbered =
+    by-test (test .0)
+    (λ t. rw t (rw (ne-eqb (test .1) 0 (λ z. omega arith))))
+    (λ f. rw f (spliced tests rest (numbered .1)))
+
+-- two tests with one number are one
+pub either : (a b : Bool) (n : ℕ) (rest : List (Bool × ℕ)) → firstOf ((a, n) ∷ (b, n) ∷ rest) ≡ firstOf ((a || b, n) ∷ rest)
+either true b n rest = refl
+either false b n rest = refl
