@@ -1,6 +1,7 @@
 -- What the file's definitions mean: written, then read; read, then written; a day's sheets. Read from top to bottom.
 pub mod Numbers
 pub mod Fields
+pub mod Faults
 pub mod Records
 pub mod Writable
 pub mod Fitting

@@ -7,7 +7,7 @@ use mathlib.Core.Path.{_≡_, refl, sym, ap, _∙_}
 use mathlib.Core.Bool.{Bool, true, false, cond, not, _&&_, _||_}
 use mathlib.Core.List.{List, [], _∷_, _++_}
 use native.Mathlib.Omega.{arith}
-use borrow.Author.Tests.{ne-eqb, eq-eqb, eqb-true, le-ltb}
+use borrow.Author.Tests.{not-true, ne-eqb, eq-eqb, eqb-true, eqb-false, le-ltb}
 use lib.Dec.{eqb, ltb, lit<}
 use lib.ListN.{length, drop}
 use Rattle.measure.specs.Kinds.{kindOf}
@@ -33,6 +33,7 @@ use Rattle.dayfile.specs.Reading.{lastNumbers, lastTrailer, startOf, lastRecord
 use Rattle.dayfile.proofs.laws.Trailer.{within-trailer}
 use Rattle.dayfile.proofs.laws.Reading.{framed, count-fits}
 use Rattle.dayfile_laws.proofs.Writable.{is-usable}
+use Rattle.dayfile_laws.proofs.Faults.{FaultFound, fault-found}
 use Rattle.dayfile_laws.proofs.ReadWritten.{length-spaces}
 use Rattle.demands.proofs.Reached.{DayCall, call, write, handedBack, numberOf}
 use Rattle.demands.proofs.Tests.{FirstGiven, LowestGiven, first-given, lowest-given, spliced, either}
@@ -86,7 +87,13 @@ reportTests s justified =
 abbrev pub writeTests : Sheet → ℕ → ℕ → ℕ → List (Bool × ℕ)
 writeTests s justified size at = reportTests s justified ++ ((ltb (size - at) (sheetSize (s .count)), 15) ∷ [])
 
--- "except in reading: there 16, 17, 13, 14, 18 in that order"; 18: "gross or net isn't what the records give"
+-- 18: "gross or net isn't what the records give"
+abbrev pub figuresWrong : List ℕ → Bool
+figuresWrong file =
+    let xs = standing (sheetIn file) in
+    not (eqb (gross xs) (lastTrailer file .gross)) || not (eqb (net xs) (lastTrailer file .net))
+
+-- "except in reading: there 16, 17, 13, 14, 18 in that order"
 abbrev pub readTests : List ℕ → List (Bool × ℕ)
 readTests file =
     let s = sheetIn file in
@@ -95,7 +102,7 @@ readTests file =
     ∷ (not (eqb (faultIn file) 0), 17)
     ∷ (lengthsShort s, 13)
     ∷ (ballastUnjustified s (t .justified), 14)
-    ∷ (not (eqb (gross (standing s)) (t .gross)) || not (eqb (net (standing s)) (t .net)), 18)
+    ∷ (figuresWrong file, 18)
     ∷ []
 
 -- ---- "is given exactly when the paper says": for any sheet and any numbers
@@ -166,13 +173,12 @@ unfolding readNumber reported
 read-number file =
     let s = sheetIn file in
     let t = lastTrailer file in
-    let figures = not (eqb (gross (standing s)) (t .gross)) || not (eqb (net (standing s)) (t .net)) in
     by-test (noSheet file)
     (λ e. rw e)
     (λ e.
     rw e
     (ap (λ (n : ℕ). cond (not (eqb (faultIn file) 0)) 17 n)
-    (spliced (reportTests s (t .justified)) ((figures, 18) ∷ []) (omega arith) ∙ rw (read-open file e, mark-in-range file e))))
+    (spliced (reportTests s (t .justified)) ((figuresWrong file, 18) ∷ []) (omega arith) ∙ rw (read-open file e, mark-in-range file e))))
 
 answered-number : (file : List ℕ) → readOf file .number ≡ readNumber file
 unfolding readOf refusedReading
@@ -206,13 +212,31 @@ pub refused-open-gives : (L : ℕ) → (openedWith L .number ≡ 0 → ⊥) → 
 unfolding openedWith usable blank
 refused-open-gives L refused = by-test (within tonnageLengths L) (λ t. absurd (refused (rw t))) (λ f. rw f)
 
--- "A refused .. read hands back a sheet not open, mark 0, start 0." "The position is 0 for every number but 17."
+-- "A refused .. read hands back a sheet not open, mark 0, start 0." 17 "with the position, from 1, of the first such record", and "The
+-- position is 0 for every number but 17."
 pub record NothingRead (file : List ℕ) : Type 0 where
   pub not-open : usable (readOf file .sheet) ≡ false
   pub mark-0 : readOf file .justified ≡ 0
   pub start-0 : readOf file .start ≡ 0
-  pub position-with-17 : readOf file .number ≡ 17 → readOf file .position ≡ faultIn file
+  pub position-with-17 : readOf file .number ≡ 17 → FaultFound (lastTrailer file .«tonnage_length») [] (lastRecords file) (readOf file .position)
   pub position-0 : (readOf file .number ≡ 17 → ⊥) → readOf file .position ≡ 0
+
+with-17 : (a b c d e : Bool) → firstOf ((a, 16) ∷ (b, 17) ∷ (c, 13) ∷ (d, 14) ∷ (e, 18) ∷ []) ≡ 17 → b ≡ true
+with-17 true b c d e z = absurd (omega arith)
+with-17 false true c d e z = refl
+with-17 false false true d e z = absurd (omega arith)
+with-17 false false false true e z = absurd (omega arith)
+with-17 false false false false true z = absurd (omega arith)
+with-17 false false false false false z = absurd (omega arith)
+
+fault-position : (file : List ℕ) → readNumber file ≡ 17 → FaultFound (lastTrailer file .«tonnage_length») [] (lastRecords file) (faultIn file)
+unfolding faultIn
+fault-position file z =
+    let s = sheetIn file in
+    let t = lastTrailer file in
+    let fault = not (eqb (faultIn file) 0) in
+    let applies = with-17 (noSheet file) fault (lengthsShort s) (ballastUnjustified s (t .justified)) (figuresWrong file) (sym (read-number file) ∙ z) in
+    fault-found (t .«tonnage_length») [] (lastRecords file) (eqb-false _ 0 (not-true _ applies))
 
 pub refused-read-gives : (file : List ℕ) → (readOf file .number ≡ 0 → ⊥) → NothingRead file
 unfolding readOf refusedReading usable blank
@@ -224,6 +248,8 @@ refused-read-gives file refused =
       not-open = rw f;
       mark-0 = rw f;
       start-0 = rw f;
-      position-with-17 = λ e. rw (f, eq-eqb (readNumber file) 17 (sym (answered-number file) ∙ e));
+      position-with-17 = λ e.
+          let z = sym (answered-number file) ∙ e in
+          rw (f, eq-eqb (readNumber file) 17 z) (fault-position file z);
       position-0 = λ e. rw (f, ne-eqb (readNumber file) 17 (λ q. e (answered-number file ∙ q)));
     })
