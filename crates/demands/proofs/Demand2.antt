@@ -30,7 +30,7 @@ use Rattle.spaces_laws.proofs.Valid.{valid-is-sound}
 use Rattle.spaces_laws.proofs.Report.{report-exact}
 use Rattle.sheet.specs.Sheet.{standing}
 use Rattle.sheet.specs.Changes.{fitted, noted}
-use Rattle.sheet.specs.Calls.{measuredFor, entered, reported}
+use Rattle.sheet.specs.Calls.{entryOf, measuredFor, entered, reported}
 use Rattle.sheet.specs.declared.sheet.Sheet.{Sheet}
 use Rattle.sheet.specs.declared.calls.Entry.{Entry}
 use Rattle.sheet.proofs.laws.Report.{given}
@@ -112,7 +112,7 @@ pub tonnage-of-S : (t l : Hundredths) (heights breadths : List ℕ) → measured
 unfolding kindOf levelVolume
 tonnage-of-S t l heights breadths z = rounded-once 3 t l heights breadths z
 
--- H and R: "Length times breadth times height."
+-- H and R: "Length times breadth times height." With any other number of heights or breadths they are refused with 3.
 pub tonnage-of-H : (t l : Hundredths) (height breadth : ℕ) → measured 4 t l (height ∷ []) (breadth ∷ []) .number ≡ 0
     → Nearest (l.0 * breadth * height) (100 * 100 * 100) (measured 4 t l (height ∷ []) (breadth ∷ []) .tonnage)
 unfolding kindOf boxVolume
@@ -129,10 +129,11 @@ tonnage-of-R t l height breadth z = rounded-once 5 t l (height ∷ []) (breadth 
 pub record EnteredLast (s : Sheet) (e : Entry) (heights breadths : List ℕ) : Type 0 where
   pub offsets-accepted : measuredFor s e heights breadths .number ≡ 0
   pub stands-last : standing (entered s e heights breadths .sheet) ≡ standing s ++ (spaceOf (s .length) e heights breadths ∷ [])
+  pub with-its-tonnage : spaceOf (s .length) e heights breadths .tonnage ≡ measuredFor s e heights breadths .tonnage
 
 pub entered-last : {s : Sheet} → Reached s → (e : Entry) (heights breadths : List ℕ) → entered s e heights breadths .number ≡ 0
     → EnteredLast s e heights breadths
-unfolding entered fitted noted
+unfolding entered entryOf fitted noted
 entered-last {s} r e heights breadths z =
     let x = spaceOf (s .length) e heights breadths in
     let (offsets, taken) = enter-accepted s e heights breadths z in
@@ -141,6 +142,7 @@ entered-last {s} r e heights breadths z =
     record {
       offsets-accepted = offsets;
       stands-last = ap standing (handed-next _ s _ z) ∙ rw (le-leb (length (standing s ++ (x ∷ []))) 200 fits) (stand-in-places (standing s ++ (x ∷ [])) s);
+      with-its-tonnage = refl;
     }
 
 -- ---- gross and net

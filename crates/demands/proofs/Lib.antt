@@ -1,4 +1,5 @@
--- The three demands, each a module that begins with the asker's words. Read from top to bottom.
+-- The three demands, each a module that begins with the asker's words, and that no promise leaves room for a second answer. Before
+-- them: which sheets calls can reach, and what it means that a number is given by a list of tests. Read from top to bottom.
 pub mod Reached
 pub mod Tests
 pub mod Demand1

@@ -47,6 +47,7 @@ withoutWrites [] = []
 withoutWrites (call c ∷ calls) = c ∷ withoutWrites calls
 withoutWrites (write justified size at ∷ calls) = withoutWrites calls
 
+-- a sheet that such calls hand back
 pub data Reached : Sheet → Type 0 where
   reached : {L : ℕ} {start : List Space} {first : Sheet} → Begun L start first → (calls : List DayCall) → Reached (afterDay calls first)
 
@@ -59,7 +60,6 @@ begun-of-records (read file z) = read-of-records file z
 begun-of-records (ofRecords L records z) = resumed-of-records L records z
 
 -- writes leave the sheet to the other calls
-
 pub writes-change-nothing : (calls : List DayCall) (s : Sheet) → afterDay calls s ≡ after (withoutWrites calls) s
 unfolding written
 writes-change-nothing [] s = refl
