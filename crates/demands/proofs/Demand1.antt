@@ -14,14 +14,16 @@ use Rattle.measure.specs.Kinds.{kindOf}
 use Rattle.measure.specs.Ranges.{within, tonnageLengths}
 use Rattle.measure.specs.Refusals.{firstOf}
 use Rattle.measure.specs.Volumes.{hundredths}
-use Rattle.measure.specs.Offsets.{inRange, counted, measured}
+use Rattle.measure.specs.Offsets.{inRange, counted as rightlyCounted, measured}
 use Rattle.spaces.specs.Row.{sumOf}
 use Rattle.spaces.specs.Rules.{entryTests, withdrawTests, markTests}
 use Rattle.spaces.specs.Gross.{gross, net, unjustified}
+use Rattle.spaces.specs.declared.space.Space.{Space}
 use Rattle.spaces.specs.declared.sums.Amount.the-variants.{Lengths}
 use Rattle.spaces.proofs.laws.Cases.{by-test}
 use Rattle.sheet.specs.Sheet.{standing, usable, blank}
-use Rattle.sheet.specs.Calls.{openedWith, entered, withdrawn, marked, undone, redone, reported}
+use Rattle.sheet.specs.Calls.{openedWith, entered, withdrawn, marked, undone, redone, counted, reported}
+use Rattle.sheet.specs.Resume.{misrecorded, recordNumber, firstRefused, resumed}
 use Rattle.sheet.specs.declared.sheet.Sheet.{Sheet}
 use Rattle.sheet.specs.declared.calls.Entry.{Entry}
 use Rattle.sheet_laws.specs.Run.{spaceOf}
@@ -53,7 +55,7 @@ enterTests s e heights breadths =
     let l = hundredths (e .length) in
     (not (usable s), 1)
     ∷ (ltb 3 (e .standing) || not (inRange k t l heights breadths), 2)
-    ∷ (not (counted k t l heights breadths), 3)
+    ∷ (not (rightlyCounted k t l heights breadths), 3)
     ∷ entryTests (s .length) (standing s) (spaceOf (s .length) e heights breadths)
 
 -- 1, 5, 11
@@ -105,6 +107,10 @@ readTests file =
     ∷ (figuresWrong file, 18)
     ∷ []
 
+-- "It checks records in file order as entries with the recorded tonnage and length": 2 of a record's own numbers, then 4 to 10
+abbrev pub recordTests : ℕ → List Space → Space → List (Bool × ℕ)
+recordTests L before x = (misrecorded x, 2) ∷ entryTests L before x
+
 -- ---- "is given exactly when the paper says": for any sheet and any numbers
 
 pub open-refused : (L : ℕ) → LowestGiven (openTests L) (openedWith L .number)
@@ -121,7 +127,7 @@ enter-refused s e heights breadths =
     let t = hundredths (s .length) in
     let l = hundredths (e .length) in
     let out = not (inRange k t l heights breadths) in
-    let wrong = not (counted k t l heights breadths) in
+    let wrong = not (rightlyCounted k t l heights breadths) in
     let rest = entryTests (s .length) (standing s) (spaceOf (s .length) e heights breadths) in
     let same : entered s e heights breadths .number ≡ firstOf (enterTests s e heights breadths) =
     ap (λ (n : ℕ). cond (not (usable s)) 1 n)
@@ -155,6 +161,11 @@ write-refused s justified size at =
     let same : written s justified size at .number ≡ firstOf (writeTests s justified size at) =
     spliced (reportTests s justified) ((ltb (size - at) (sheetSize (s .count)), 15) ∷ []) (omega arith) in
     rw same (lowest-given (writeTests s justified size at) (omega arith))
+
+-- `resume`, by which reading makes its sheet, judges each record after those before it
+pub record-refused : (L : ℕ) (before : List Space) (x : Space) → LowestGiven (recordTests L before x) (recordNumber L before x)
+unfolding recordNumber
+record-refused L before x = lowest-given (recordTests L before x) (omega arith)
 
 -- a report of the last sheet of a file is never refused with 1 or 2: 16 comes before
 module _ (file : List ℕ) (ends-in-sheet : noSheet file ≡ false) where
@@ -211,6 +222,19 @@ refused-write-gives s justified at buffer refused = let e = ne-eqb _ 0 refused i
 pub refused-open-gives : (L : ℕ) → (openedWith L .number ≡ 0 → ⊥) → usable (openedWith L .sheet) ≡ false
 unfolding openedWith usable blank
 refused-open-gives L refused = by-test (within tonnageLengths L) (λ t. absurd (refused (rw t))) (λ f. rw f)
+
+-- and so does a refused `resume`
+pub refused-resume-gives : (L : ℕ) (records : List Space) → (resumed L records .number ≡ 0 → ⊥) → usable (resumed L records .sheet) ≡ false
+unfolding resumed usable blank
+refused-resume-gives L records refused =
+    by-test (within tonnageLengths L)
+    (λ t. by-test (eqb (firstRefused L [] records .number) 0) (λ u. absurd (refused (rw (t, u)))) (λ f. rw (t, f)))
+    (λ f. rw f)
+
+-- "Both counts can be asked for and are 0 on a sheet not open."
+pub counts-when-not-open : (s : Sheet) → usable s ≡ false → (counted s .undoable ≡ 0) × (counted s .redoable ≡ 0)
+unfolding counted
+counts-when-not-open s closed = (rw closed, rw closed)
 
 -- "A refused .. read hands back a sheet not open, mark 0, start 0." 17 "with the position, from 1, of the first such record", and "The
 -- position is 0 for every number but 17."
