@@ -1,6 +1,6 @@
 #!/usr/bin/env python3
-"""Fails where a public function of a library promises nothing of its result, promises less than an equality, or asks
-something of its caller.
+"""Fails where a public function of a library promises nothing of its result, promises less than an equality, asks something
+of its caller, or has no row in the theorem that no promise leaves room for a second answer; and where such a row names none.
 
 Run at the root of the project: python3 tools/promises.py [-v]   (-v lists every public function with its promise)
 """
@@ -14,6 +14,9 @@ CLAUSE = re.compile(r'\s*(requires|ensures)\b[^{]*')
 # What determines an answer: the result, the bytes of a part that it hands on, or what a lent buffer holds at the end, equal
 # to a definition.
 EQUALITY = re.compile(r'⌜ \(?(?:r|now r|now \(\S+ \.exit\)) ≡ ')
+
+SECOND_ANSWER = Path('crates/demands/proofs/NoSecondAnswer.antt')
+ROW = re.compile(r'^  «?([\w-]+)»? : Public ', re.M)
 
 
 def closing(text: str, at: int, pair: str) -> int:
@@ -49,18 +52,28 @@ def fault(requires: list[str], ensures: list[str]) -> str:
     return ''
 
 
+def rows() -> set[str]:
+    """The functions that the theorem names."""
+    return {name.replace('-', '_') for name in ROW.findall(SECOND_ANSWER.read_text())}
+
+
 def main() -> int:
     faults = 0
+    named, public = rows(), set()
     for source in sorted(Path('crates').glob('*/src/**/*.rt')):
         library = Path(*source.parts[:2]) / 'src' / 'lib.rt'
         if not library.exists():
             continue
         for name, requires, ensures in public_functions(source.read_text()):
+            public.add(name)
             wrong = fault(requires, ensures)
             faults += bool(wrong)
             if wrong or '-v' in sys.argv:
                 promise = ' '.join(' '.join(ensures).split())
                 print(f'{source}: {name}: {wrong or promise}')
+    for name in sorted(named ^ public):
+        faults += 1
+        print(f'{SECOND_ANSWER}: {name}: {"no row for it" if name in public else "no public function"}')
     return 1 if faults else 0
 
 

@@ -36,8 +36,10 @@ use Rattle.dayfile.specs.Writing.{written, writtenInto}
 use Rattle.dayfile.specs.Reading.{readOf}
 use Rattle.dayfile.specs.declared.writing.Written.{Written}
 use Rattle.dayfile.specs.declared.reading.Reading.{Reading}
+use Rattle.listing.specs.Listing.{listed}
+use Rattle.listing.specs.declared.listing.Listing.{Listing}
 
--- the public functions of the four libraries, by what they are given and what they answer. An array is the list of its places; the
+-- the public functions of the libraries (tools/promises.py holds the names to the code), by what they are given and what they answer. An array is the list of its places; the
 -- answer of `write` is its value and the whole buffer after it.
 pub data Public : Type 0 → Type 0 → Type 1 where
   -- measure
@@ -84,6 +86,8 @@ pub data Public : Type 0 → Type 0 → Type 1 where
   part-from : Public (List ℕ × ℕ) (List ℕ)
   part-before : Public (List ℕ × ℕ) (List ℕ)
   write : Public (Sheet × ℕ × List ℕ × ℕ) (Written × List ℕ)
+  -- listing
+  list : Public (List ℕ) Listing
 
 -- what each promises
 unfoldable pub promised : {Given Answer : Type 0} → Public Given Answer → Given → Answer
@@ -127,6 +131,7 @@ promised read file = readOf file
 promised part-from (file, start) = drop start file
 promised part-before (file, start) = take start file
 promised write (s, justified, buffer, at) = (written s justified (length buffer) at, writtenInto s justified at buffer)
+promised list file = listed file
 
 -- two answers that both meet a function's promise are one
 pub no-second-answer : {Given Answer : Type 0} (f : Public Given Answer) (given : Given) {one other : Answer}
