@@ -1,4 +1,5 @@
 -- `enclosure::walk` meets its contract: the levels left fall with each step, and a step is the definition's first one.
+use Prim.Native.Nat.{ℕ, _-_, _<_}
 use mathlib.Core.Path.{sym, ap, _∙_}
 use native.Mathlib.Omega.{arith}
 use lib.ListN.{take}
@@ -7,149 +8,89 @@ use Rattle.spaces.specs.declared.enclosure.Above.{Above}
 use Rattle.spaces.proofs.laws.Found.{found-at, found-nothing}
 use Rattle.spaces.proofs.laws.Enclosure.{upward-some, upward-none, upward-short, walked-past}
 use borrow.Author.Needs.{needs}
-use Prim.Native.Nat.{ℕ, _-_, _<_}
 use borrow.Fn.Kinds.{In}
 use borrow.Fn.PlainCycle.{Measures, is, falls, and}
-use Rattle.spaces.proofs.enclosure.walk.Reads as walk
-use Rattle.spaces.proofs.enclosure.walk.Kinds as walk-kinds
-use Rattle.spaces.proofs.enclosure.+walk.Lts-walk as walk-lts
+use Rattle.spaces.proofs.enclosure.walk.Reads as reads
+use Rattle.spaces.proofs.enclosure.walk.Kinds as kinds
 use Rattle.spaces.proofs.enclosure.enclosing.Reads as enclosing-reads
 use Rattle.spaces.proofs.enclosure.past.Reads as past-reads
+use Rattle.spaces.proofs.enclosure.+walk.Lts-walk as lts
 use Rattle.spaces.proofs.enclosure.+walk.{statement}
 use Rattle.spaces.proofs.enclosure.+walk.Tie.{close}
 
-abbrev μ-walk : Measures 0 walk-kinds.ps ℕ
-μ-walk κs a = a .1 .1 .1 .0
+-- the levels left
+abbrev μ : Measures 0 kinds.ps ℕ
+μ κs a = a .1 .1 .1 .0
 
-abbrev walk-at : ℕ → In 0 walk-kinds.ps
-walk-at t = and 0 walk-kinds.ps (is 0 walk-kinds.ps μ-walk t) walk.Pre
+-- with t levels left, and with fewer
+abbrev now-left : ℕ → In 0 kinds.ps
+now-left t = and 0 kinds.ps (is 0 kinds.ps μ t) reads.Pre
 
-abbrev walk-below : ℕ → In 0 walk-kinds.ps
-walk-below t = and 0 walk-kinds.ps (falls 0 walk-kinds.ps _<_ μ-walk t) walk.Pre
+abbrev fewer-left : ℕ → In 0 kinds.ps
+fewer-left t = and 0 kinds.ps (falls 0 kinds.ps _<_ μ t) reads.Pre
 
-walk-returns : (t : ℕ) → walk-lts.Need-returns (
-  enclosing-reads.Asked,
-  enclosing-reads.Learnt,
-  walk-below t,
-  walk.Post,
-  past-reads.Asked,
-  past-reads.Learnt,
-) (walk-at t) walk.Post
-walk-returns t c = rw (c .if1 .taken)
+-- what the functions called ask and tell
+abbrev told : ℕ → lts.Claims
+told t = (enclosing-reads.Asked, enclosing-reads.Learnt, fewer-left t, reads.Post, past-reads.Asked, past-reads.Learnt)
 
-walk-enclosing-requires : (t : ℕ) → walk-lts.Need-enclosing-requires (
-  enclosing-reads.Asked,
-  enclosing-reads.Learnt,
-  walk-below t,
-  walk.Post,
-  past-reads.Asked,
-  past-reads.Learnt,
-) (walk-at t) walk.Post
-walk-enclosing-requires t c κs = tt
+module _ (t : ℕ) where
+  returns : lts.Need-returns (told t) (now-left t) reads.Post
+  returns c = rw (c .if1 .taken)
 
-walk-enum-known-found : (t : ℕ) → walk-lts.Need-enum-known-found (
-  enclosing-reads.Asked,
-  enclosing-reads.Learnt,
-  walk-below t,
-  walk.Post,
-  past-reads.Asked,
-  past-reads.Learnt,
-) (walk-at t) walk.Post
-walk-enum-known-found t c = search needs
+  enclosing-requires : lts.Need-enclosing-requires (told t) (now-left t) reads.Post
+  enclosing-requires c κs = tt
 
-walk-sub-walk : (t : ℕ) → walk-lts.Need-sub-walk (
-  enclosing-reads.Asked,
-  enclosing-reads.Learnt,
-  walk-below t,
-  walk.Post,
-  past-reads.Asked,
-  past-reads.Learnt,
-) (walk-at t) walk.Post
-walk-sub-walk t c = omega arith
+  enum-known-found : lts.Need-enum-known-found (told t) (now-left t) reads.Post
+  enum-known-found c = search needs
 
-walk-walk-requires : (t : ℕ) → walk-lts.Need-walk-requires (
-  enclosing-reads.Asked,
-  enclosing-reads.Learnt,
-  walk-below t,
-  walk.Post,
-  past-reads.Asked,
-  past-reads.Learnt,
-) (walk-at t) walk.Post
-walk-walk-requires t c κs =
-    let s = c .before .before .before .before .before in
-    (omega (arith, s .pre .0), omega (arith, s .pre .1))
+  sub-walk : lts.Need-sub-walk (told t) (now-left t) reads.Post
+  sub-walk c = omega arith
 
-walk-past-requires : (t : ℕ) → walk-lts.Need-past-requires (
-  enclosing-reads.Asked,
-  enclosing-reads.Learnt,
-  walk-below t,
-  walk.Post,
-  past-reads.Asked,
-  past-reads.Learnt,
-) (walk-at t) walk.Post
-walk-past-requires t c κs =
-    let s = c .before .before .before .before .before .before in
-    omega (arith, s .pre .1, ap (λ (w : Above). w .levels) (c .walk .ensures), upward-short (s .args .left - 1) (take (s .args .count) (s .args .spaces)) (c .before .before .found .given .0 .0))
+  walk-requires : lts.Need-walk-requires (told t) (now-left t) reads.Post
+  walk-requires c κs =
+      let s = c .before .before .before .before .before in
+      (omega (arith, s .pre .0), omega (arith, s .pre .1))
 
-walk-enum-told : (t : ℕ) → walk-lts.Need-enum-told (
-  enclosing-reads.Asked,
-  enclosing-reads.Learnt,
-  walk-below t,
-  walk.Post,
-  past-reads.Asked,
-  past-reads.Learnt,
-) (walk-at t) walk.Post
-walk-enum-told t c = search needs
+  past-requires : lts.Need-past-requires (told t) (now-left t) reads.Post
+  past-requires c κs =
+      let s = c .before .before .before .before .before .before in
+      omega (arith, s .pre .1, ap (λ (w : Above). w .levels) (c .walk .ensures), upward-short (s .args .left - 1) (take (s .args .count) (s .args .spaces)) (c .before .before .found .given .0 .0))
 
-walk-returns-2 : (t : ℕ) → walk-lts.Need-returns-2 (
-  enclosing-reads.Asked,
-  enclosing-reads.Learnt,
-  walk-below t,
-  walk.Post,
-  past-reads.Asked,
-  past-reads.Learnt,
-) (walk-at t) walk.Post
-walk-returns-2 t c =
-    let w = c .before in
-    let s = w .before .before .before .before .before .before in
-    let xs = take (s .args .count) (s .args .spaces) in
-    let z = w .before .before .found .given .0 .0 in
-    let e = found-at (enclosing xs (s .args .x)) (w .before .before .before .before .enclosing .ensures) (w .before .before .found .given .1) in
-    c .past .ensures
-    ∙ ap (pastOf z) (w .walk .ensures)
-    ∙ sym (ap walked (upward-some (s .args .left) xs (s .args .x) (omega arith) e) ∙ walked-past z (upward (s .args .left - 1) xs z))
+  enum-told : lts.Need-enum-told (told t) (now-left t) reads.Post
+  enum-told c = search needs
 
-walk-returns-3 : (t : ℕ) → walk-lts.Need-returns-3 (
-  enclosing-reads.Asked,
-  enclosing-reads.Learnt,
-  walk-below t,
-  walk.Post,
-  past-reads.Asked,
-  past-reads.Learnt,
-) (walk-at t) walk.Post
-walk-returns-3 t c =
-    let s = c .before .before .before .before in
-    let xs = take (s .args .count) (s .args .spaces) in
-    let e = found-nothing (enclosing xs (s .args .x)) (c .before .before .enclosing .ensures) (c .enum-told .given .1) in
-    sym (ap walked (upward-none (s .args .left) xs (s .args .x) e))
+  returns-2 : lts.Need-returns-2 (told t) (now-left t) reads.Post
+  returns-2 c =
+      let w = c .before in
+      let s = w .before .before .before .before .before .before in
+      let xs = take (s .args .count) (s .args .spaces) in
+      let z = w .before .before .found .given .0 .0 in
+      let e = found-at (enclosing xs (s .args .x)) (w .before .before .before .before .enclosing .ensures) (w .before .before .found .given .1) in
+      c .past .ensures
+      ∙ ap (pastOf z) (w .walk .ensures)
+      ∙ sym (ap walked (upward-some (s .args .left) xs (s .args .x) (omega arith) e) ∙ walked-past z (upward (s .args .left - 1) xs z))
+
+  returns-3 : lts.Need-returns-3 (told t) (now-left t) reads.Post
+  returns-3 c =
+      let s = c .before .before .before .before in
+      let xs = take (s .args .count) (s .args .spaces) in
+      let e = found-nothing (enclosing xs (s .args .x)) (c .before .before .enclosing .ensures) (c .enum-told .given .1) in
+      sym (ap walked (upward-none (s .args .left) xs (s .args .x) e))
 
 pub +walk-spec : {M : Type 1} → statement M
-+walk-spec = close μ-walk λ t. walk-lts.spec (
-  enclosing-reads.Asked,
-  enclosing-reads.Learnt,
-  walk-below t,
-  walk.Post,
-  past-reads.Asked,
-  past-reads.Learnt,
-)
-    (walk-at t)
-    walk.Post
-    (walk-returns t)
-    (walk-enclosing-requires t)
-    (walk-enum-known-found t)
-    (walk-sub-walk t)
-    (walk-walk-requires t)
-    (walk-past-requires t)
-    (walk-enum-told t)
-    (walk-returns-2 t)
-    (walk-returns-3 t)
++walk-spec =
+    close
+    μ
+    λ t. lts.spec
+    (told t)
+    (now-left t)
+    reads.Post
+    (returns t)
+    (enclosing-requires t)
+    (enum-known-found t)
+    (sub-walk t)
+    (walk-requires t)
+    (past-requires t)
+    (enum-told t)
+    (returns-2 t)
+    (returns-3 t)
