@@ -1,6 +1,7 @@
 -- `rules::entry_number` meets its contract: the tests of 4 to 10, in the table's order.
 use mathlib.Core.Path.{_≡_, sym, ap, _∙_}
-use mathlib.Core.Bool.{false, not, _&&_}
+use mathlib.Core.Bool.{Bool, false, cond, not, _&&_}
+use lib.Dec.{leb}
 use borrow.Author.Tests.{lt-ltb, le-ltb, le-leb, lt-leb}
 use lib.ListN.{length, take}
 use Rattle.spaces.specs.Space.{isPlain}
@@ -120,27 +121,28 @@ standing c =
     let full : length (s .args .spaces) ≡ 200 = search needs in
     c .used .ensures ∙ used-is (s .args .spaces) (s .args .count) full
 
-returns-7 : tie.Need-returns-7
+-- with all the others passed over, 10 decides
+last-test : (c : tie.After-used) → (let s = c .before .before .before .before .before .before .before .before .before .before .before .before .before .before in let xs = take (s .args .count) (s .args .spaces) in entryNumber (s .args .tonnage-length) xs (s .args .x) ≡ cond (leb 200 (length xs)) 10 0)
 unfolding entryNumber
+last-test c =
+    let f = c .before in
+    let o = f .before .before in
+    let d = o .before .before in
+    let p = d .before .before .before in
+    let h = p .before .before in
+    simp (free (h .before .before), housed h, placed p, shallow d, once o, fits f)
+
+returns-7 : tie.Need-returns-7
 returns-7 c =
     let s = c .before .before .before .before .before .before .before .before .before .before .before .before .before .before .before in
-    let f = c .before .before in
-    let o = f .before .before in
-    let d = o .before .before in
-    let p = d .before .before .before in
-    let h = p .before .before in
-    simp (free (h .before .before), housed h, placed p, shallow d, once o, fits f, le-leb 200 (length (take (s .args .count) (s .args .spaces))) (omega (arith, standing (c .before))))
+    let many = le-leb 200 (length (take (s .args .count) (s .args .spaces))) (omega (arith, standing (c .before))) in
+    sym (last-test (c .before) ∙ ap (λ (b : Bool). cond b 10 0) many)
 
 returns-8 : tie.Need-returns-8
-unfolding entryNumber
 returns-8 c =
     let s = c .before .before .before .before .before .before .before .before .before .before .before .before .before .before .before in
-    let f = c .before .before in
-    let o = f .before .before in
-    let d = o .before .before in
-    let p = d .before .before .before in
-    let h = p .before .before in
-    simp (free (h .before .before), housed h, placed p, shallow d, once o, fits f, lt-leb 200 (length (take (s .args .count) (s .args .spaces))) (omega (arith, standing (c .before))))
+    let many = lt-leb 200 (length (take (s .args .count) (s .args .spaces))) (omega (arith, standing (c .before))) in
+    sym (last-test (c .before) ∙ ap (λ (b : Bool). cond b 10 0) many)
 
 pub entry-number-spec : {M : Type 1} → statement M
 entry-number-spec =
