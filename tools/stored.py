@@ -23,6 +23,7 @@ def stored() -> dict[Path, bytes]:
     ):
         found[Path('crates', name, 'stdin')] = given
         found[Path('crates', name, 'stdout')] = printed.encode('ascii')
+    found[Path('examples/barge.day')] = whole  # the file that the example barge's morning writes
     return found
 
 
