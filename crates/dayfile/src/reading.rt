@@ -15,6 +15,7 @@ ghost use Rattle.dayfile.specs.Handed.{judgedReading};
 
 // The paper's number, 0 where accepted, and the position of the record where it is 17; then the sheet, its justified mark
 // and where it starts.
+#[repr(C)]
 pub struct Reading {
     pub number: u8,
     pub position: usize,

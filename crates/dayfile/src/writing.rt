@@ -10,6 +10,7 @@ ghost use lib.ListN.{length};
 ghost use Rattle.dayfile.specs.Writing.{written, writtenInto};
 
 // The paper's number, 0 where accepted, the bytes written, and the sheet as it came.
+#[repr(C)]
 pub struct Written {
     pub number: u8,
     pub bytes: usize,

@@ -14,6 +14,7 @@ ghost use Rattle.listing.specs.Handed.{PutText, Blank};
 const MOST_BYTES: usize = 65_536;
 
 // The text is the first `size` bytes; zeros follow.
+#[repr(C)]
 pub struct Listing {
     pub text: [u8; 8192],
     pub size: usize,

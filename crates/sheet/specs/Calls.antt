@@ -14,7 +14,7 @@ use Rattle.spaces.specs.Rules.{entryTests, withdrawTests, markTests}
 use Rattle.spaces.specs.Gross.{gross, net, unjustified}
 use Rattle.spaces.specs.declared.space.Space.{Space}
 use Rattle.spaces.specs.declared.sums.Amount.the-variants.{Lengths}
-use Rattle.sheet.specs.Sheet.{standing, usable, noChange, blank}
+use Rattle.sheet.specs.Sheet.{standing, usable, changeOf, noChange, blank}
 use Rattle.sheet.specs.Changes.{made, takenBack, withChanges, noted}
 use Rattle.sheet.specs.declared.changes.Change.{Change}
 use Rattle.sheet.specs.declared.changes.Change.the-variants.{Entered, Withdrawn, Marked}
@@ -94,7 +94,7 @@ marked s id standing' =
 
 -- the change at a place of the open ones
 abbrev pub changeAt : Sheet → ℕ → Change
-changeAt s i = getD (s .changes) i noChange .change
+changeAt s i = changeOf (getD (s .changes) i noChange)
 
 abbrev pub recounted : ℕ → ℕ → Sheet → Sheet
 recounted undoable redoable s = withChanges (s .changes) undoable redoable s

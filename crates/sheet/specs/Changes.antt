@@ -6,7 +6,7 @@ use lib.Dec.{leb}
 use lib.ListN.{length, take, drop, getD, set}
 use Rattle.spaces.specs.Space.{emptySpace}
 use Rattle.spaces.specs.declared.space.Space.{Space}
-use Rattle.sheet.specs.Sheet.{standing}
+use Rattle.sheet.specs.Sheet.{standing, kept}
 use Rattle.sheet.specs.declared.changes.Change.{Change}
 use Rattle.sheet.specs.declared.changes.Change.the-variants.{Entered, Withdrawn, Marked}
 use Rattle.sheet.specs.declared.changes.OpenChange.{OpenChange}
@@ -88,5 +88,5 @@ latest cs = drop (length cs - 64) cs
 -- "A change makes undoable one more, never above 64, and redoable 0": a change noted behind those that are undoable
 unfoldable pub noted : Change → Sheet → Sheet
 noted c s =
-    let past = latest (take (s .undoable) (s .changes) ++ (record { change = c } ∷ [])) in
+    let past = latest (take (s .undoable) (s .changes) ++ (kept c ∷ [])) in
     withChanges (past ++ drop (length past) (s .changes)) (length past) 0 s

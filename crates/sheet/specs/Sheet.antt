@@ -1,13 +1,15 @@
 -- A sheet: "It holds 200 places for spaces, kept in order of entry", and its open changes.
 use Prim.Native.Nat.{ℕ, _-_}
+use mathlib.Core.Path.{_≡_, refl}
 use mathlib.Core.Bool.{Bool, cond, _&&_}
 use mathlib.Core.List.{List}
-use lib.Dec.{leb, ltb}
+use lib.Dec.{eqb, leb, ltb}
 use lib.ListN.{length, take, getD, replicate}
 use Rattle.spaces.specs.Space.{emptySpace}
 use Rattle.spaces.specs.declared.space.Space.{Space}
+use Rattle.sheet.specs.declared.changes.Change.{Change}
+use Rattle.sheet.specs.declared.changes.Change.the-variants.{Entered, Withdrawn, Marked}
 use Rattle.sheet.specs.declared.changes.OpenChange.{OpenChange}
-use Rattle.sheet.specs.declared.changes.Change.the-variants.{Entered}
 use Rattle.sheet.specs.declared.sheet.Sheet.{Sheet}
 
 -- the standing spaces, in order of entry; what lies in a free place is never looked at
@@ -16,17 +18,38 @@ standing s = take (s .count) (s .spaces)
 
 -- open, with counts that a call could have handed back: any other sheet is answered as one not open
 unfoldable pub usable : Sheet → Bool
-usable s = s .opened && leb (s .count) 200 && leb (s .undoable) 64 && leb (s .redoable) (64 - s .undoable)
+usable s = eqb (s .opened) 1 && leb (s .count) 200 && leb (s .undoable) 64 && leb (s .redoable) (64 - s .undoable)
+
+-- a change as a sheet keeps it, in numbers; and the change that is kept so
+abbrev pub kept : Change → OpenChange
+kept (Entered x) = record { made = 0; before = 0; after = 0; place = 0; space = x }
+kept (Withdrawn p x) = record { made = 1; before = 0; after = 0; place = p; space = x }
+kept (Marked p before after) = record { made = 2; before = before; after = after; place = p; space = emptySpace }
+
+unfoldable pub changeOf : OpenChange → Change
+changeOf o =
+    cond (eqb (o .made) 0)
+    (Entered (o .space))
+    (cond (eqb (o .made) 1)
+    (Withdrawn (o .place) (o .space))
+    (Marked (o .place) (o .before) (o .after)))
+
+-- nothing of a change is lost
+pub kept-whole : (c : Change) → changeOf (kept c) ≡ c
+unfolding changeOf
+kept-whole (Entered x) = refl
+kept-whole (Withdrawn p x) = refl
+kept-whole (Marked p before after) = refl
 
 -- the change of a place that holds none
 abbrev pub noChange : OpenChange
-noChange = record { change = Entered emptySpace }
+noChange = kept (Entered emptySpace)
 
 -- a sheet with nothing on it
 unfoldable pub blank : Bool → ℕ → Sheet
 blank opened length =
     record {
-      opened = opened;
+      opened = cond opened 1 0;
       length = length;
       spaces = replicate 200 emptySpace;
       count = 0;

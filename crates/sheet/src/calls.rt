@@ -19,6 +19,7 @@ ghost use lib.Dec.{eqb};
 ghost use Rattle.sheet.specs.Calls.{openedWith, entered, withdrawn, marked, undone, redone, counted, reported, entryOf};
 
 // What is entered: the enclosing id is looked at only of a room.
+#[repr(C)]
 pub struct Entry {
     pub id: u16,
     pub within: u16,
@@ -27,11 +28,13 @@ pub struct Entry {
     pub length: u32,
 }
 
+#[repr(C)]
 pub struct Changed {
     pub number: u8,
     pub sheet: Sheet,
 }
 
+#[repr(C)]
 pub struct Counted {
     pub undoable: usize,
     pub redoable: usize,
@@ -39,6 +42,7 @@ pub struct Counted {
 }
 
 // Gross and net in hundredths of a ton, 0 and 0 where refused.
+#[repr(C)]
 pub struct Reported {
     pub number: u8,
     pub gross: u64,
@@ -202,7 +206,7 @@ impl Sheet {
         }
         let at = n - 1;
         let latest = self.changes[at];
-        let change = latest.change;
+        let change = latest.change();
         let mut next = self.taken_back(change);
         next.undoable = at;
         next.redoable = self.redoable + 1;
@@ -231,7 +235,7 @@ impl Sheet {
         }
         let at = self.undoable;
         let last = self.changes[at];
-        let change = last.change;
+        let change = last.change();
         let mut next = self.made(change);
         next.undoable = at + 1;
         next.redoable = m - 1;

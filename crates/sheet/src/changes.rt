@@ -4,9 +4,10 @@ use crate::row::without_oldest;
 use crate::row::without_place;
 use crate::sheet::Sheet;
 use spaces::space::Space;
+use spaces::space::empty;
 ghost use mathlib.Core.Path.{_≡_};
 ghost use Prim.Native.Nat.{min};
-ghost use Rattle.sheet.specs.Sheet.{standing as standingOf};
+ghost use Rattle.sheet.specs.Sheet.{standing as standingOf, kept, changeOf};
 ghost use Rattle.sheet.specs.Handed.{Places, OpenPlaces};
 ghost use Rattle.sheet.specs.Changes.{made as madeOf, takenBack, noted as notedOf, fitted, appended, withoutLast, removed, inserted, restood};
 
@@ -18,8 +19,65 @@ pub enum Change {
     Marked(usize, u8, u8),
 }
 
+// A change as a sheet keeps it, in numbers: an enum can't be handed to C.
+#[repr(C)]
 pub struct OpenChange {
-    pub change: Change,
+    // Which change it is: 0 an entry, 1 a withdrawal, 2 a mark.
+    pub made: u8,
+    pub before: u8,
+    pub after: u8,
+    pub place: usize,
+    pub space: Space,
+}
+
+const ENTRY: u8 = 0;
+
+const WITHDRAWAL: u8 = 1;
+
+const MARK: u8 = 2;
+
+impl OpenChange {
+    pub(crate) fn keeping(change: Change) -> OpenChange
+        ensures { λ r. ⌜ r ≡ kept change ⌝ }
+    {
+        let none = empty();
+        match change {
+            Change::Entered(space) => OpenChange {
+                made: ENTRY,
+                before: 0,
+                after: 0,
+                place: 0,
+                space,
+            },
+            Change::Withdrawn(place, space) => OpenChange {
+                made: WITHDRAWAL,
+                before: 0,
+                after: 0,
+                place,
+                space,
+            },
+            Change::Marked(place, before, after) => OpenChange {
+                made: MARK,
+                before,
+                after,
+                place,
+                space: none,
+            },
+        }
+    }
+
+    pub(crate) fn change(self) -> Change
+        ensures { λ r. ⌜ r ≡ changeOf self ⌝ }
+    {
+        let space = self.space;
+        if self.made == ENTRY {
+            return Change::Entered(space);
+        }
+        if self.made == WITHDRAWAL {
+            return Change::Withdrawn(self.place, space);
+        }
+        Change::Marked(self.place, self.before, self.after)
+    }
 }
 
 impl Sheet {
@@ -124,7 +182,7 @@ impl Sheet {
         ensures { λ r. ⌜ r ≡ notedOf change self ⌝ }
     {
         let n = self.undoable;
-        let latest = OpenChange { change };
+        let latest = OpenChange::keeping(change);
         let mut next = self;
         next.redoable = 0;
         if n < 64 {

@@ -10,8 +10,10 @@ ghost use mathlib.Core.Bool.{false};
 ghost use Rattle.sheet.specs.Sheet.{blank as blankOf, usable as usableOf, standingCount, spaceAt, placesOf, lengthOf};
 ghost use Rattle.sheet.specs.Handed.{Judged};
 
+#[repr(C)]
 pub struct Sheet {
-    pub(crate) opened: bool,
+    // 1 where the sheet is open.
+    pub(crate) opened: u8,
     // The tonnage length, in hundredths of a foot.
     pub(crate) length: u32,
     // 200 places: the first `count` stand, in order of entry.
@@ -29,12 +31,11 @@ impl Sheet {
         ensures { λ r. ⌜ r ≡ blankOf opened length ⌝ }
     {
         let none = empty();
-        let change = Change::Entered(none);
-        let free = OpenChange { change };
+        let free = OpenChange::keeping(Change::Entered(none));
         let spaces = [none; 200];
         let changes = [free; 64];
         Sheet {
-            opened,
+            opened: opened as u8,
             length,
             spaces,
             count: 0,
@@ -52,7 +53,7 @@ impl Sheet {
         let places = places_of(spaces);
         let changes = self.changes;
         let most = open_places_of(changes);
-        if !self.opened {
+        if self.opened != 1 {
             return false;
         }
         if places < self.count {

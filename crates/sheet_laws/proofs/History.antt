@@ -12,7 +12,7 @@ use lib.Dec.{leb}
 use lib.ListN.{length, take, drop, length-append, length-drop}
 use lib.Seq.{length-take-le, take-append-seam}
 use Rattle.spaces.specs.declared.space.Space.{Space}
-use Rattle.sheet.specs.Sheet.{standing, usable}
+use Rattle.sheet.specs.Sheet.{standing, usable, kept, changeOf, kept-whole}
 use Rattle.sheet.specs.Changes.{apply, applyBack, withStanding, fitted, withChanges, latest, made, takenBack, noted}
 use Rattle.sheet.specs.Calls.{changeAt, changed, recounted}
 use Rattle.sheet.specs.declared.changes.Change.{Change}
@@ -24,7 +24,7 @@ use Rattle.sheet_laws.proofs.Undoable.{Leads, Undoable, Redoable, older
 
 -- a sheet opened with the tonnage length L
 pub record Opened (L : ℕ) (s : Sheet) : Type 0 where
-  pub is-open : s .opened ≡ true
+  pub is-open : s .opened ≡ 1
   pub length-kept : s .length ≡ L
   pub places : length (s .spaces) ≡ 200
 
@@ -94,20 +94,20 @@ module _ (Allowed : List Space → Type 0) (start : List Space) where
       pub kept-changed : {c : Change} {by-id : run.ChangeById} {ys : List Space} → Allowed ys → Leads c by-id (standing s) ys
           → Kept L (changed c s) (run.noted by-id log) (run.oneMore k)
       unfolding noted
-      kept-changed {c} {by-id} allowed l =
+      kept-changed {c} {by-id} {ys} allowed l =
           let cs = s .changes in
           let u = s .undoable in
-          let o : OpenChange = record { change = c } in
+          let o : OpenChange = kept c in
           let all = take u cs ++ (o ∷ []) in
-          let kept = latest all in
+          let newest = latest all in
           let room : u ≤ length cs = omega (arith, h .open-places, h .open-fit) in
           let size : length all ≡ u + 1 = length-append (take u cs) (o ∷ []) ∙ ap (λ (n : ℕ). n + 1) (length-take-le u cs room) in
-          let counted : length kept ≡ min 64 (u + 1) = omega (arith, length-drop (length all - 64) all, h .open-fit) in
+          let counted : length newest ≡ min 64 (u + 1) = omega (arith, length-drop (length all - 64) all, h .open-fit) in
           subst (λ (t : Sheet). Kept L (noted c t) (run.noted by-id log) (run.oneMore k)) (sym (in-places (l .leads) allowed))
           (kept-with (h .opened) allowed
-          (omega (arith, length-append kept (drop (length kept) cs), length-drop (length kept) cs, h .open-places))
+          (omega (arith, length-append newest (drop (length newest) cs), length-drop (length newest) cs, h .open-places))
           (omega arith)
-          (undoable-noted Allowed start cs u o room (h .allowed) (rw (h .stand) at l) (h .to-undo))
+          (undoable-noted Allowed start cs u o room (h .allowed) (subst (λ (d : Change). Leads d by-id (h .row) ys) (sym (kept-whole c)) (rw (h .stand) at l)) (h .to-undo))
           nothing
           (counted ∙ ap (λ (n : ℕ). min 64 (n + 1)) (h .undoable-is))
           refl)

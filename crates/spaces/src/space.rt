@@ -2,6 +2,7 @@
 ghost use mathlib.Core.Path.{_≡_};
 ghost use Rattle.spaces.specs.Space.{emptySpace, mayTake};
 
+#[repr(C)]
 pub struct Space {
     pub id: u16,
     // The enclosing id, 0 for a U, B, S or H.

@@ -12,7 +12,7 @@ use lib.ListN.{length, take, drop, getD, set, length-append, length-drop, length
 use lib.Seq.{length-take-le, take-all, take-take, getD-take, take-set-lt, drop-set-lt, set-out, set-at, append-snoc, drop-cons, drop-append-le, paste, length-paste-head}
 use Rattle.spaces.specs.Space.{emptySpace}
 use Rattle.spaces.specs.declared.space.Space.{Space}
-use Rattle.sheet.specs.Sheet.{standing, noChange}
+use Rattle.sheet.specs.Sheet.{standing, kept, noChange}
 use Rattle.sheet.specs.Changes.{appended, withoutLast, removed, inserted, restanding, restood, withStanding, fitted, withChanges, latest, noted}
 use Rattle.sheet.specs.Handed.{Places, OpenPlaces}
 use Rattle.sheet.specs.declared.changes.Change.{Change}
@@ -179,11 +179,11 @@ module _ (s : Sheet) (c : Change) (whole : OpenPlaces s) where
   full64 : length (s .changes) ≡ 64
   full64 = whole .all
 
-  pub noted-behind : s .undoable < 64 → withChanges (set (s .changes) (s .undoable) (record { change = c })) (s .undoable + 1) 0 s ≡ noted c s
+  pub noted-behind : s .undoable < 64 → withChanges (set (s .changes) (s .undoable) (kept c)) (s .undoable + 1) 0 s ≡ noted c s
   unfolding noted
   noted-behind h =
       let n = s .undoable in
-      let o : OpenChange = record { change = c } in
+      let o : OpenChange = kept c in
       let cs = take n (s .changes) ++ (o ∷ []) in
       let len : length cs ≡ n + 1 = length-append (take n (s .changes)) (o ∷ []) ∙ ap (λ (k : ℕ). k + 1) (length-take-le n (s .changes) (omega arith)) in
       let all : latest cs ≡ cs = ap (λ (k : ℕ). drop k cs) (over len) in
@@ -195,10 +195,10 @@ module _ (s : Sheet) (c : Change) (whole : OpenPlaces s) where
       over : {k : ℕ} → k ≡ s .undoable + 1 → k - 64 ≡ 0
       over e = omega arith
 
-  pub noted-full : s .undoable ≡ 64 → withChanges (set (paste (s .changes) 0 (drop 1 (s .changes)) 63) 63 (record { change = c })) (s .undoable) 0 s ≡ noted c s
+  pub noted-full : s .undoable ≡ 64 → withChanges (set (paste (s .changes) 0 (drop 1 (s .changes)) 63) 63 (kept c)) (s .undoable) 0 s ≡ noted c s
   unfolding noted
   noted-full h =
-      let o : OpenChange = record { change = c } in
+      let o : OpenChange = kept c in
       let ch = s .changes in
       let cs = take (s .undoable) ch ++ (o ∷ []) in
       let kept-all : cs ≡ ch ++ (o ∷ []) = ap (λ (l : List OpenChange). l ++ (o ∷ [])) (take-all (s .undoable) ch (omega (arith, full64))) in

@@ -3,13 +3,13 @@ use mathlib.Core.Path.{_≡_, refl}
 use mathlib.Core.Bool.{Bool, true, false, cond, _&&_}
 use Prim.Native.Nat.{_-_, _≤_, zero-le}
 use borrow.Author.Tests.{leb-true}
-use lib.Dec.{leb}
+use lib.Dec.{eqb, leb}
 use Rattle.measure.proofs.laws.Tests.{and-left, and-right}
 use Rattle.sheet.specs.Sheet.{usable, standingCount}
 use Rattle.sheet.specs.declared.sheet.Sheet.{Sheet}
 
 pub record Counts (s : Sheet) : Type 0 where
-  pub opened : s .opened ≡ true
+  pub opened : eqb (s .opened) 1 ≡ true
   pub places : s .count ≤ 200
   pub undoable : s .undoable ≤ 64
   pub redoable : s .redoable ≤ 64 - s .undoable
@@ -17,13 +17,13 @@ pub record Counts (s : Sheet) : Type 0 where
 pub usable-counts : (s : Sheet) → usable s ≡ true → Counts s
 unfolding usable
 usable-counts s e =
-    let a = s .opened && leb (s .count) 200 in
+    let a = eqb (s .opened) 1 && leb (s .count) 200 in
     let b = a && leb (s .undoable) 64 in
     let h = and-left b (leb (s .redoable) (64 - s .undoable)) e in
     let g = and-left a (leb (s .undoable) 64) h in
     record {
-      opened = and-left (s .opened) (leb (s .count) 200) g;
-      places = leb-true _ _ (and-right (s .opened) (leb (s .count) 200) g);
+      opened = and-left (eqb (s .opened) 1) (leb (s .count) 200) g;
+      places = leb-true _ _ (and-right (eqb (s .opened) 1) (leb (s .count) 200) g);
       undoable = leb-true _ _ (and-right a (leb (s .undoable) 64) h);
       redoable = leb-true _ _ (and-right b (leb (s .redoable) (64 - s .undoable)) e);
     }

@@ -1,15 +1,28 @@
 -- `Sheet::blank` meets its contract.
+use mathlib.Core.Path.{_≡_, refl}
+use mathlib.Core.Bool.{Bool, true, false, cond}
+use mir.Val.{boolByte}
 use Rattle.sheet.specs.Sheet.{blank}
 use borrow.Author.Needs.{needs}
 use Rattle.sheet.proofs.sheet.Sheet.blank.Statement.{statement}
 use Rattle.sheet.proofs.sheet.Sheet.blank.Tie as tie
 
+as-number : (t : Bool) → boolByte t ≡ cond t 1 0
+as-number true = refl
+as-number false = refl
+
 empty-requires : tie.Need-empty-requires
 empty-requires c κs = search needs
 
+keeping-requires : tie.Need-keeping-requires
+keeping-requires c κs = search needs
+
+cast-t8 : tie.Need-cast-t8
+cast-t8 c = search needs
+
 returns : tie.Need-returns
 unfolding blank
-returns c = rw (c .empty .ensures)
+returns c = rw (c .keeping .ensures, c .before .empty .ensures, as-number (c .before .before .args .opened))
 
 pub blank-spec : {M : Type 1} → statement M
-blank-spec = tie.close (tie.spec empty-requires returns)
+blank-spec = tie.close (tie.spec empty-requires keeping-requires cast-t8 returns)

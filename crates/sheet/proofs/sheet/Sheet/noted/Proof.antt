@@ -1,5 +1,6 @@
 -- `Sheet::noted` meets its contract.
-use mathlib.Core.Path.{ap, _∙_}
+use Prim.Native.Nat.{_+_}
+use mathlib.Core.Path.{ap, ap₂, _∙_}
 use mathlib.Core.List.{List}
 use lib.ListN.{set}
 use Rattle.sheet.specs.Changes.{withChanges}
@@ -9,6 +10,9 @@ use borrow.Author.Needs.{needs}
 use native.Mathlib.Omega.{arith}
 use Rattle.sheet.proofs.sheet.Sheet.noted.Statement.{statement}
 use Rattle.sheet.proofs.sheet.Sheet.noted.Tie as tie
+
+keeping-requires : tie.Need-keeping-requires
+keeping-requires c κs = search needs
 
 mul-latest : tie.Need-mul-latest
 mul-latest c = search needs
@@ -20,7 +24,11 @@ add-next : tie.Need-add-next
 add-next c = search needs
 
 returns : tie.Need-returns
-returns c = noted-behind (c .before .args .self) (c .before .args .change) (c .before .pre) (c .if1 .taken)
+returns c =
+    let s = c .before .before in
+    let sh = s .args .self in
+    ap (λ (o : OpenChange). withChanges (set (sh .changes) (sh .undoable) o) (sh .undoable + 1) 0 sh) (c .before .keeping .ensures)
+    ∙ noted-behind sh (s .args .change) (s .pre) (c .if1 .taken)
 
 without-oldest-requires : tie.Need-without-oldest-requires
 without-oldest-requires c κs = search needs
@@ -30,14 +38,16 @@ array-set-from-kept c = search needs
 
 returns-2 : tie.Need-returns-2
 returns-2 c =
-    let s = c .before .before .before in
-    ap (λ (l : List OpenChange). withChanges (set l 63 (record { change = s .args .change })) (s .args .self .undoable) 0 (s .args .self)) (c .without-oldest .ensures)
-    ∙ noted-full (s .args .self) (s .args .change) (s .pre) (omega (arith, c .before .before .if1 .left, s .pre .count))
+    let s = c .before .before .before .before in
+    let sh = s .args .self in
+    ap₂ (λ (l : List OpenChange) (o : OpenChange). withChanges (set l 63 o) (sh .undoable) 0 sh) (c .without-oldest .ensures) (c .before .before .before .keeping .ensures)
+    ∙ noted-full sh (s .args .change) (s .pre) (omega (arith, c .before .before .if1 .left, s .pre .count))
 
 pub noted-spec : {M : Type 1} → statement M
 noted-spec =
     tie.close
     (tie.spec
+    keeping-requires
     mul-latest
     element-set-from-latest
     add-next

@@ -5,6 +5,7 @@ use Rattle.measure.proofs.laws.Tests.{holds, fails}
 use borrow.Author.Tests.{not-false, ne-eqb, eq-eqb}
 use Rattle.sheet.specs.Sheet.{usable}
 use Rattle.sheet.specs.Changes.{made}
+use Rattle.sheet.specs.declared.changes.Change.{Change}
 use Rattle.sheet.specs.declared.sheet.Sheet.{Sheet}
 use mathlib.Core.List.{[], _∷_}
 use Prim.Native.Nat.{_+_, _-_}
@@ -45,26 +46,29 @@ element-copy-out-last c =
     let u = usable-counts _ (holds (c .before .before .usable .ensures .usable-is) (c .before .if1 .left)) in
     omega (arith, u .undoable, u .redoable, c .if2 .left)
 
+change-requires : tie.Need-change-requires
+change-requires c κs = search needs
+
 made-requires : tie.Need-made-requires
-made-requires c κs = places (c .before .before .before .usable .ensures) (not-false _ (c .before .before .if1 .left))
+made-requires c κs = places (c .before .before .before .before .usable .ensures) (not-false _ (c .before .before .before .if1 .left))
 
 add-next : tie.Need-add-next
 add-next c =
-    let u = usable-counts _ (holds (c .before .before .before .before .usable .ensures .usable-is) (c .before .before .before .if1 .left)) in
-    omega (arith, u .undoable, u .redoable, c .before .before .if2 .left)
+    let u = usable-counts _ (holds (c .before .before .before .before .before .usable .ensures .usable-is) (c .before .before .before .before .if1 .left)) in
+    omega (arith, u .undoable, u .redoable, c .before .before .before .if2 .left)
 
 sub-next : tie.Need-sub-next
 sub-next c =
-    let u = usable-counts _ (holds (c .before .before .before .before .usable .ensures .usable-is) (c .before .before .before .if1 .left)) in
-    omega (arith, u .undoable, u .redoable, c .before .before .if2 .left)
+    let u = usable-counts _ (holds (c .before .before .before .before .before .usable .ensures .usable-is) (c .before .before .before .before .if1 .left)) in
+    omega (arith, u .undoable, u .redoable, c .before .before .before .if2 .left)
 
 returns-3 : tie.Need-returns-3
 unfolding redone
 returns-3 c =
-    let sh = c .before .before .before .before .before .args .t1 in
+    let sh = c .before .before .before .before .before .before .args .t1 in
     let next = recounted (sh .undoable + 1) (sh .redoable - 1) (made (changeAt sh (sh .undoable)) sh) in
-    let on = is-open sh ((eqb (sh .redoable) 0, 12) ∷ []) (holds (c .before .before .before .before .usable .ensures .usable-is) (c .before .before .before .if1 .left)) ∙ passes (eqb (sh .redoable) 0) 12 [] (ne-eqb (sh .redoable) 0 (c .before .before .if2 .left)) in
-    ap (λ (t : Sheet). record { number = 0; sheet = recounted (sh .undoable + 1) (sh .redoable - 1) t }) (c .made .ensures) ∙ ap (λ (k : ℕ). answered k sh next) (sym on)
+    let on = is-open sh ((eqb (sh .redoable) 0, 12) ∷ []) (holds (c .before .before .before .before .before .usable .ensures .usable-is) (c .before .before .before .before .if1 .left)) ∙ passes (eqb (sh .redoable) 0) 12 [] (ne-eqb (sh .redoable) 0 (c .before .before .before .if2 .left)) in
+    ap (λ (t : Sheet). record { number = 0; sheet = recounted (sh .undoable + 1) (sh .redoable - 1) t }) (c .made .ensures ∙ ap (λ (d : Change). made d sh) (c .before .change .ensures)) ∙ ap (λ (k : ℕ). answered k sh next) (sym on)
 
 pub redo-spec : {M : Type 1} → statement M
 redo-spec =
@@ -75,6 +79,7 @@ redo-spec =
     returns-2
     mul-last
     element-copy-out-last
+    change-requires
     made-requires
     add-next
     sub-next

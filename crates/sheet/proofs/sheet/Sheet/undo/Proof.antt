@@ -4,6 +4,7 @@ use Prim.Native.Nat.{ℕ}
 use Rattle.measure.proofs.laws.Tests.{holds, fails}
 use borrow.Author.Tests.{not-false, ne-eqb, eq-eqb}
 use Rattle.sheet.specs.Sheet.{usable}
+use Rattle.sheet.specs.declared.changes.Change.{Change}
 use Rattle.sheet.specs.declared.sheet.Sheet.{Sheet}
 use mathlib.Core.List.{[], _∷_}
 use Prim.Native.Nat.{_+_, _-_}
@@ -50,21 +51,24 @@ element-copy-out-latest c =
     let u = usable-counts _ (holds (c .before .before .usable .ensures .usable-is) (c .before .if1 .left)) in
     omega (arith, u .undoable, u .redoable, c .if2 .left)
 
+change-requires : tie.Need-change-requires
+change-requires c κs = search needs
+
 taken-back-requires : tie.Need-taken-back-requires
-taken-back-requires c κs = places (c .before .before .before .usable .ensures) (not-false _ (c .before .before .if1 .left))
+taken-back-requires c κs = places (c .before .before .before .before .usable .ensures) (not-false _ (c .before .before .before .if1 .left))
 
 add-next : tie.Need-add-next
 add-next c =
-    let u = usable-counts _ (holds (c .before .before .before .before .usable .ensures .usable-is) (c .before .before .before .if1 .left)) in
-    omega (arith, u .undoable, u .redoable, c .before .before .if2 .left)
+    let u = usable-counts _ (holds (c .before .before .before .before .before .usable .ensures .usable-is) (c .before .before .before .before .if1 .left)) in
+    omega (arith, u .undoable, u .redoable, c .before .before .before .if2 .left)
 
 returns-3 : tie.Need-returns-3
 unfolding undone
 returns-3 c =
-    let sh = c .before .before .before .before .before .args .t1 in
+    let sh = c .before .before .before .before .before .before .args .t1 in
     let next = recounted (sh .undoable - 1) (sh .redoable + 1) (takenBack (changeAt sh (sh .undoable - 1)) sh) in
-    let on = is-open sh ((eqb (sh .undoable) 0, 12) ∷ []) (holds (c .before .before .before .before .usable .ensures .usable-is) (c .before .before .before .if1 .left)) ∙ passes (eqb (sh .undoable) 0) 12 [] (ne-eqb (sh .undoable) 0 (c .before .before .if2 .left)) in
-    ap (λ (t : Sheet). record { number = 0; sheet = recounted (sh .undoable - 1) (sh .redoable + 1) t }) (c .taken-back .ensures) ∙ ap (λ (k : ℕ). answered k sh next) (sym on)
+    let on = is-open sh ((eqb (sh .undoable) 0, 12) ∷ []) (holds (c .before .before .before .before .before .usable .ensures .usable-is) (c .before .before .before .before .if1 .left)) ∙ passes (eqb (sh .undoable) 0) 12 [] (ne-eqb (sh .undoable) 0 (c .before .before .before .if2 .left)) in
+    ap (λ (t : Sheet). record { number = 0; sheet = recounted (sh .undoable - 1) (sh .redoable + 1) t }) (c .taken-back .ensures ∙ ap (λ (d : Change). takenBack d sh) (c .before .change .ensures)) ∙ ap (λ (k : ℕ). answered k sh next) (sym on)
 
 pub undo-spec : {M : Type 1} → statement M
 undo-spec =
@@ -76,6 +80,7 @@ undo-spec =
     sub-at
     mul-latest
     element-copy-out-latest
+    change-requires
     taken-back-requires
     add-next
     returns-3)

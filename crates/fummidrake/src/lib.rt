@@ -1,0 +1,136 @@
+// The calls for C and Rust: each hands its numbers to the call of the library that it is named for, and promises what that
+// one promises. include/fummidrake.h declares them, with a sentence for each.
+//
+// A slice is a pointer and a length there. No function asks anything of its caller but that the two belong together.
+use dayfile::Reading;
+use dayfile::Written;
+use listing::Listing;
+use sheet::Changed;
+use sheet::Counted;
+use sheet::Entry;
+use sheet::Reported;
+use sheet::Sheet;
+use spaces::space::Space;
+ghost use mathlib.Core.Path.{_≡_};
+ghost use lib.ListN.{length};
+ghost use Rattle.sheet.specs.Sheet.{usable, lengthOf, standingCount, spaceAt};
+ghost use Rattle.sheet.specs.Calls.{openedWith, entered, withdrawn, marked, undone, redone, counted, reported};
+ghost use Rattle.dayfile.specs.Writing.{written, writtenInto};
+ghost use Rattle.dayfile.specs.Reading.{readOf};
+ghost use Rattle.listing.specs.Listing.{listed};
+
+#[no_mangle]
+pub extern "C" fn fummidrake_open(length: u32) -> Changed
+    ensures { λ r. ⌜ r ≡ openedWith length ⌝ }
+{
+    Sheet::open(length)
+}
+
+#[no_mangle]
+pub extern "C" fn fummidrake_enter(
+    sheet: Sheet,
+    entry: Entry,
+    heights: &[u32],
+    breadths: &[u32],
+) -> Changed
+    ensures { λ r. ⌜ r ≡ entered sheet entry (now (heights .entry)) (now (breadths .entry)) ⌝ }
+{
+    sheet.enter(entry, heights, breadths)
+}
+
+#[no_mangle]
+pub extern "C" fn fummidrake_withdraw(sheet: Sheet, id: u16) -> Changed
+    ensures { λ r. ⌜ r ≡ withdrawn sheet id ⌝ }
+{
+    sheet.withdraw(id)
+}
+
+#[no_mangle]
+pub extern "C" fn fummidrake_mark(sheet: Sheet, id: u16, standing: u8) -> Changed
+    ensures { λ r. ⌜ r ≡ marked sheet id standing ⌝ }
+{
+    sheet.mark(id, standing)
+}
+
+#[no_mangle]
+pub extern "C" fn fummidrake_undo(sheet: Sheet) -> Changed
+    ensures { λ r. ⌜ r ≡ undone sheet ⌝ }
+{
+    sheet.undo()
+}
+
+#[no_mangle]
+pub extern "C" fn fummidrake_redo(sheet: Sheet) -> Changed
+    ensures { λ r. ⌜ r ≡ redone sheet ⌝ }
+{
+    sheet.redo()
+}
+
+#[no_mangle]
+pub extern "C" fn fummidrake_counts(sheet: Sheet) -> Counted
+    ensures { λ r. ⌜ r ≡ counted sheet ⌝ }
+{
+    sheet.counts()
+}
+
+#[no_mangle]
+pub extern "C" fn fummidrake_report(sheet: Sheet, justified: u8) -> Reported
+    ensures { λ r. ⌜ r ≡ reported sheet justified ⌝ }
+{
+    sheet.report(justified)
+}
+
+#[no_mangle]
+pub extern "C" fn fummidrake_is_open(sheet: Sheet) -> bool
+    ensures { λ r. ⌜ r ≡ usable sheet ⌝ }
+{
+    sheet.is_open()
+}
+
+#[no_mangle]
+pub extern "C" fn fummidrake_tonnage_length(sheet: Sheet) -> u32
+    ensures { λ r. ⌜ r ≡ lengthOf sheet ⌝ }
+{
+    sheet.tonnage_length()
+}
+
+#[no_mangle]
+pub extern "C" fn fummidrake_standing_count(sheet: Sheet) -> usize
+    ensures { λ r. ⌜ r ≡ standingCount sheet ⌝ }
+{
+    sheet.standing_count()
+}
+
+#[no_mangle]
+pub extern "C" fn fummidrake_space_at(sheet: Sheet, place: usize) -> Space
+    ensures { λ r. ⌜ r ≡ spaceAt sheet place ⌝ }
+{
+    sheet.space_at(place)
+}
+
+#[no_mangle]
+pub extern "C" fn fummidrake_write(
+    sheet: Sheet,
+    justified: u8,
+    buf: &mut [u8],
+    at: usize,
+) -> Written
+    ensures answer { λ r. ⌜ r ≡ written sheet justified (length (now (buf .entry))) at ⌝ }
+    ensures buffer { λ _. ⌜ now (buf .exit) ≡ writtenInto sheet justified at (now (buf .entry)) ⌝ }
+{
+    dayfile::write(sheet, justified, buf, at)
+}
+
+#[no_mangle]
+pub extern "C" fn fummidrake_read(file: &[u8]) -> Reading
+    ensures { λ r. ⌜ r ≡ readOf (now (file .entry)) ⌝ }
+{
+    dayfile::read(file)
+}
+
+#[no_mangle]
+pub extern "C" fn fummidrake_list(file: &[u8]) -> Listing
+    ensures { λ r. ⌜ r ≡ listed (now (file .entry)) ⌝ }
+{
+    listing::list(file)
+}
