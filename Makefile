@@ -1,22 +1,31 @@
-# `make run` surveys the example barge; `make test` proves and tests everything; `make fuzz N=100` compares fresh scripts.
+# `make run` surveys the example barge, `make examples` does it in C and Rust; `make test` proves and tests everything;
+# `make fuzz N=100` compares fresh scripts.
 KIT := rattle-kit-5b logic 064da1ca440f63e7
 
-.PHONY: test run fuzz stored kit
+.PHONY: test run examples fuzz stored kit
 
 test: kit
 	@rt fmt --check
 	@python3 tools/promises.py
 	@python3 tools/mapped.py
+	@python3 tools/header.py
 	@python3 -m unittest discover -q -s reference -t .
 	@python3 tools/stored.py --check
 	@rt ci
 	@python3 tools/edits.py
 	@python3 tools/lists.py > target/lists.log || { cat target/lists.log; exit 1; }
+	@python3 tools/examples.py
+	@gcc -std=c11 -Wall -Wextra -Wpedantic -Werror -O1 -Iinclude tools/boundary.c target/staticlib/libfummidrake.a -o target/boundary
+	@target/boundary
 
 # Proves the library and the program over it, then plays the example barge's morning.
 run: kit
 	@rt check survey > target/run.log 2>&1 || { cat target/run.log; exit 1; }
 	@target/bin/survey < examples/barge.txt
+
+# Builds and runs the programs in C and Rust by the README's lines, and compares what they print with the second program's answers.
+examples: kit
+	@python3 tools/examples.py -v
 
 # Plays N fresh scripts at random on the proved program and on the second one, and stops at the first difference.
 N := 20

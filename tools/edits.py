@@ -8,11 +8,13 @@ import re
 import sys
 from pathlib import Path
 
+FAULT = re.compile(r'^error| error: |^fn .* `search` does not close `')
 SHAPE = re.compile(r"has no `Need|expected type `tie\.Need|is not a place of|has no field `")
 
 
 def first_error(log: str) -> str:
-    return next((line for line in log.splitlines() if ' error: ' in line or line.startswith('error')), '')
+    """The first fault; of a function that has no proof file, the fact that the search no longer finds."""
+    return next((line for line in log.splitlines() if FAULT.search(line)), '')
 
 
 def main() -> int:

@@ -1,5 +1,6 @@
 #!/usr/bin/env python3
-"""The stored input and expected output of each program, all of it made by the second program (reference/).
+"""The stored input and expected output of each program, and of the examples in C and Rust, all of it made by the second program
+(reference/).
 
 Run at the root of the project:  python3 tools/stored.py           writes them
                                  python3 tools/stored.py --check   fails where one isn't what the reference prints today
@@ -10,6 +11,12 @@ from pathlib import Path
 sys.path.insert(0, '.')
 
 from reference import dayfile, figures, files, scripts, survey  # noqa: E402
+
+
+def morning(script: str) -> str:
+    """The lines of the examples in C and Rust: each call of the script by its name, with its answer."""
+    calls = [line.split()[0] for line in script.splitlines() if line and not line.startswith('#')]
+    return ''.join(f'{call} {answer}\n' for call, answer in zip(calls, survey.answers(script).splitlines(), strict=True))
 
 
 def stored() -> dict[Path, bytes]:
@@ -24,6 +31,8 @@ def stored() -> dict[Path, bytes]:
         found[Path('crates', name, 'stdin')] = given
         found[Path('crates', name, 'stdout')] = printed.encode('ascii')
     found[Path('examples/barge.day')] = whole  # the file that the example barge's morning writes
+    barge = Path('examples/barge.txt').read_text()
+    found[Path('examples/answers.txt')] = (morning(barge) + dayfile.listing(whole)).encode('ascii')
     return found
 
 

@@ -1,0 +1,223 @@
+//! Fummidrake for Rust: safe calls over the declarations of `include/fummidrake.h`, which says what each answers.
+//!
+//! A call can't be made wrongly: a pointer and its length come from one slice, a sheet only from `Sheet::open`, `read` or a call,
+//! and every number may be passed. A call's number is 0 where it was accepted.
+
+/// A space as it stands; `within` is the enclosing id, 0 for a U, B, S or H.
+#[repr(C)]
+#[derive(Clone, Copy, Debug, PartialEq, Eq)]
+pub struct Space {
+    pub id: u16,
+    pub within: u16,
+    pub kind: u8,
+    pub standing: u8,
+    pub tonnage: u32,
+    pub length: u32,
+}
+
+/// What is entered; `within` is looked at only of a room.
+#[repr(C)]
+#[derive(Clone, Copy, Debug, Default)]
+pub struct Entry {
+    pub id: u16,
+    pub within: u16,
+    pub kind: u8,
+    pub standing: u8,
+    pub length: u32,
+}
+
+#[repr(C)]
+#[derive(Clone, Copy)]
+struct OpenChange {
+    made: u8,
+    before: u8,
+    after: u8,
+    place: usize,
+    space: Space,
+}
+
+/// A sheet: it goes into a call by value, and comes back.
+#[repr(C)]
+#[derive(Clone, Copy)]
+pub struct Sheet {
+    opened: u8,
+    length: u32,
+    spaces: [Space; 200],
+    count: usize,
+    changes: [OpenChange; 64],
+    undoable: usize,
+    redoable: usize,
+}
+
+#[repr(C)]
+#[derive(Clone, Copy)]
+pub struct Changed {
+    pub number: u8,
+    pub sheet: Sheet,
+}
+
+#[repr(C)]
+#[derive(Clone, Copy)]
+pub struct Counted {
+    pub undoable: usize,
+    pub redoable: usize,
+    pub sheet: Sheet,
+}
+
+#[repr(C)]
+#[derive(Clone, Copy)]
+pub struct Reported {
+    pub number: u8,
+    pub gross: u64,
+    pub net: u64,
+    pub sheet: Sheet,
+}
+
+#[repr(C)]
+#[derive(Clone, Copy)]
+pub struct Written {
+    pub number: u8,
+    pub bytes: usize,
+    pub sheet: Sheet,
+}
+
+#[repr(C)]
+#[derive(Clone, Copy)]
+pub struct Reading {
+    pub number: u8,
+    pub position: usize,
+    pub sheet: Sheet,
+    pub justified: u8,
+    pub start: usize,
+}
+
+#[repr(C)]
+#[derive(Clone, Copy)]
+pub struct Listing {
+    text: [u8; 8192],
+    size: usize,
+}
+
+// The structs have the sizes that the calls hand over.
+const _: () = {
+    assert!(size_of::<Space>() == 16);
+    assert!(size_of::<Entry>() == 12);
+    assert!(size_of::<OpenChange>() == 32);
+    assert!(size_of::<Sheet>() == 5280);
+    assert!(size_of::<Changed>() == 5288);
+    assert!(size_of::<Counted>() == 5296);
+    assert!(size_of::<Reported>() == 5304);
+    assert!(size_of::<Written>() == 5296);
+    assert!(size_of::<Reading>() == 5312);
+    assert!(size_of::<Listing>() == 8200);
+};
+
+mod calls {
+    use super::*;
+
+    unsafe extern "C" {
+        pub safe fn fummidrake_open(length: u32) -> Changed;
+        pub fn fummidrake_enter(
+            sheet: Sheet,
+            entry: Entry,
+            heights: *const u32,
+            heights_count: usize,
+            breadths: *const u32,
+            breadths_count: usize,
+        ) -> Changed;
+        pub safe fn fummidrake_withdraw(sheet: Sheet, id: u16) -> Changed;
+        pub safe fn fummidrake_mark(sheet: Sheet, id: u16, standing: u8) -> Changed;
+        pub safe fn fummidrake_undo(sheet: Sheet) -> Changed;
+        pub safe fn fummidrake_redo(sheet: Sheet) -> Changed;
+        pub safe fn fummidrake_counts(sheet: Sheet) -> Counted;
+        pub safe fn fummidrake_report(sheet: Sheet, justified: u8) -> Reported;
+        pub safe fn fummidrake_is_open(sheet: Sheet) -> bool;
+        pub safe fn fummidrake_tonnage_length(sheet: Sheet) -> u32;
+        pub safe fn fummidrake_standing_count(sheet: Sheet) -> usize;
+        pub safe fn fummidrake_space_at(sheet: Sheet, place: usize) -> Space;
+        pub fn fummidrake_write(sheet: Sheet, justified: u8, buf: *mut u8, buf_bytes: usize, at: usize) -> Written;
+        pub fn fummidrake_read(file: *const u8, file_bytes: usize) -> Reading;
+        pub fn fummidrake_list(file: *const u8, file_bytes: usize) -> Listing;
+    }
+}
+
+impl Sheet {
+    pub fn open(length: u32) -> Changed {
+        calls::fummidrake_open(length)
+    }
+
+    pub fn enter(self, entry: Entry, heights: &[u32], breadths: &[u32]) -> Changed {
+        // SAFETY: each pointer and its count are one slice's.
+        unsafe {
+            calls::fummidrake_enter(self, entry, heights.as_ptr(), heights.len(), breadths.as_ptr(), breadths.len())
+        }
+    }
+
+    pub fn withdraw(self, id: u16) -> Changed {
+        calls::fummidrake_withdraw(self, id)
+    }
+
+    pub fn mark(self, id: u16, standing: u8) -> Changed {
+        calls::fummidrake_mark(self, id, standing)
+    }
+
+    pub fn undo(self) -> Changed {
+        calls::fummidrake_undo(self)
+    }
+
+    pub fn redo(self) -> Changed {
+        calls::fummidrake_redo(self)
+    }
+
+    pub fn counts(self) -> Counted {
+        calls::fummidrake_counts(self)
+    }
+
+    pub fn report(self, justified: u8) -> Reported {
+        calls::fummidrake_report(self, justified)
+    }
+
+    pub fn is_open(self) -> bool {
+        calls::fummidrake_is_open(self)
+    }
+
+    pub fn tonnage_length(self) -> u32 {
+        calls::fummidrake_tonnage_length(self)
+    }
+
+    pub fn standing_count(self) -> usize {
+        calls::fummidrake_standing_count(self)
+    }
+
+    pub fn space_at(self, place: usize) -> Space {
+        calls::fummidrake_space_at(self, place)
+    }
+
+    /// The spaces that stand, in order of entry.
+    pub fn spaces(self) -> impl Iterator<Item = Space> {
+        (0..self.standing_count()).map(move |place| self.space_at(place))
+    }
+
+    pub fn write(self, justified: u8, buf: &mut [u8], at: usize) -> Written {
+        // SAFETY: the pointer and its bytes are one slice's, lent for the call alone.
+        unsafe { calls::fummidrake_write(self, justified, buf.as_mut_ptr(), buf.len(), at) }
+    }
+}
+
+/// Reads the last sheet of a file; `&file[..start]` are the earlier sheets, read the same way.
+pub fn read(file: &[u8]) -> Reading {
+    // SAFETY: the pointer and its bytes are one slice's.
+    unsafe { calls::fummidrake_read(file.as_ptr(), file.len()) }
+}
+
+/// Lists the last sheet of a file.
+pub fn list(file: &[u8]) -> Listing {
+    // SAFETY: the pointer and its bytes are one slice's.
+    unsafe { calls::fummidrake_list(file.as_ptr(), file.len()) }
+}
+
+impl Listing {
+    pub fn text(&self) -> &[u8] {
+        &self.text[..self.size]
+    }
+}

@@ -1,0 +1,76 @@
+//! The barge's morning of `../barge.txt` in Rust: the whole sheet of the paper is made, reported, written, read back and listed. A
+//! line for each call: its name and its answer.
+mod fummidrake;
+
+use fummidrake::{list, read, Changed, Entry, Reported, Sheet};
+use std::io::Write;
+
+/// Prints the answer to a change, an undo or a redo, and hands on the sheet after it.
+fn answered(call: &str, answer: Changed) -> Sheet {
+    println!("{call} {}", answer.number);
+    answer.sheet
+}
+
+/// Prints what stands: open or not, the tonnage length, how many, and each space.
+fn print_spaces(sheet: Sheet) {
+    print!("spaces 0 {} {} {}", sheet.is_open() as u8, sheet.tonnage_length(), sheet.standing_count());
+    for x in sheet.spaces() {
+        print!(" {}:{}:{}:{}:{}:{}", x.id, x.within, x.kind, x.standing, x.tonnage, x.length);
+    }
+    println!();
+}
+
+fn print_report(answer: Reported) {
+    println!("report {} {} {}", answer.number, answer.gross, answer.net);
+}
+
+/// Writes the sheet into a buffer of 108 bytes, and prints them.
+fn written(sheet: Sheet) -> [u8; 108] {
+    let mut file = [0; 108];
+    let answer = sheet.write(0, &mut file, 0);
+    let hex: String = file.iter().map(|byte| format!("{byte:02x}")).collect();
+    println!("write {} {} {hex}", answer.number, answer.bytes);
+    file
+}
+
+/// Opens the sheet and enters its five spaces.
+fn whole_sheet() -> Sheet {
+    let under_deck = Entry { id: 1, kind: 1, length: 4800, ..Entry::default() };
+    let superstructure = Entry { id: 2, kind: 3, length: 1600, ..Entry::default() };
+    let ballast = Entry { id: 3, within: 1, kind: 5, standing: 2, length: 1000 };
+    let deducted = Entry { id: 4, within: 2, kind: 5, standing: 3, length: 800 };
+    let hatchway = Entry { id: 5, kind: 4, length: 500, ..Entry::default() };
+    let mut sheet = answered("open", Sheet::open(4800));
+    sheet = answered("enter", sheet.enter(under_deck, &[1200; 7], &[2000; 7 * 5]));
+    sheet = answered("enter", sheet.enter(superstructure, &[800; 3], &[1000; 3]));
+    sheet = answered("enter", sheet.enter(ballast, &[400], &[1000]));
+    sheet = answered("enter", sheet.enter(deducted, &[800], &[500]));
+    answered("enter", sheet.enter(hatchway, &[500], &[400]))
+}
+
+/// The room 4 is struck out and put back, twice; two changes are refused.
+fn changed_and_undone(mut sheet: Sheet) -> Sheet {
+    sheet = answered("withdraw", sheet.withdraw(4));
+    sheet = answered("undo", sheet.undo());
+    sheet = answered("redo", sheet.redo());
+    sheet = answered("undo", sheet.undo());
+    sheet = answered("withdraw", sheet.withdraw(2));
+    answered("mark", sheet.mark(5, 1))
+}
+
+fn main() -> std::io::Result<()> {
+    let sheet = changed_and_undone(whole_sheet());
+    print_spaces(sheet);
+    let counted = sheet.counts();
+    println!("counts 0 {} {}", counted.undoable, counted.redoable);
+    print_report(sheet.report(0));
+
+    let file = written(sheet);
+    let reading = read(&file);
+    println!("read {} {} {} {}", reading.number, reading.position, reading.justified, reading.start);
+    print_spaces(reading.sheet);
+    let sheet = answered("undo", reading.sheet.undo());
+    print_report(sheet.report(reading.justified));
+
+    std::io::stdout().write_all(list(&file).text())
+}

@@ -1,0 +1,175 @@
+/* What nothing proves across the boundary to C, tried: that the header's fields are the source's, that the calls stay inside a
+ * pointer and its length, and that any bytes are a sheet. Prints nothing, or the first fault.
+ *
+ * Run at the root of the project, after `rt staticlib fummidrake`: see `make test`. */
+#define _DEFAULT_SOURCE
+#include "fummidrake.h"
+
+#include <stdio.h>
+#include <stdlib.h>
+#include <string.h>
+#include <sys/mman.h>
+#include <unistd.h>
+
+#define HOLDS(fact) ((fact) ? (void)0 : fault(#fact, __LINE__))
+
+static void fault(const char *fact, int line) {
+    printf("tools/boundary.c:%d: not so: %s\n", line, fact);
+    exit(1);
+}
+
+static uint64_t seed = 88172645463325252u;
+
+static uint64_t any(uint64_t below) {
+    seed ^= seed << 13;
+    seed ^= seed >> 7;
+    seed ^= seed << 17;
+    return seed % below;
+}
+
+/* A page between two that can't be touched: what is put at an end of it can't be left unnoticed. */
+typedef struct {
+    uint8_t *first, *end;
+} room;
+
+static room new_room(void) {
+    size_t page = (size_t)sysconf(_SC_PAGESIZE);
+    uint8_t *pages = mmap(NULL, 3 * page, PROT_NONE, MAP_PRIVATE | MAP_ANONYMOUS, -1, 0);
+    HOLDS(pages != MAP_FAILED);
+    HOLDS(mprotect(pages + page, page, PROT_READ | PROT_WRITE) == 0);
+    return (room){pages + page, pages + 2 * page};
+}
+
+/* The place of some bytes at the front or at the end of a room. */
+static uint8_t *placed(room r, size_t bytes, bool at_end) {
+    return at_end ? r.end - bytes : r.first;
+}
+
+static fummidrake_sheet entered(fummidrake_sheet sheet, fummidrake_entry entry, const uint32_t *heights, size_t heights_count,
+                                const uint32_t *breadths, size_t breadths_count) {
+    fummidrake_changed answer = fummidrake_enter(sheet, entry, heights, heights_count, breadths, breadths_count);
+    HOLDS(answer.number == 0);
+    return answer.sheet;
+}
+
+/* A U of the tonnage length 48 ft, a room in it that is exempt as ballast, and a hatchway. */
+static fummidrake_sheet three_spaces(void) {
+    uint32_t depths[7], breadths[35], ten = 1000;
+    for (size_t i = 0; i < 7; i++)
+        depths[i] = 1200;
+    for (size_t i = 0; i < 35; i++)
+        breadths[i] = 2000;
+    fummidrake_sheet sheet = fummidrake_open(4800).sheet;
+    sheet = entered(sheet, (fummidrake_entry){1, 0, 1, 0, 4800}, depths, 7, breadths, 35);
+    sheet = entered(sheet, (fummidrake_entry){2, 1, 5, 2, 1000}, &ten, 1, &ten, 1);
+    return entered(sheet, (fummidrake_entry){3, 0, 4, 0, 500}, &ten, 1, &ten, 1);
+}
+
+static bool same_space(fummidrake_space a, fummidrake_space b) {
+    return a.id == b.id && a.within == b.within && a.kind == b.kind && a.standing == b.standing && a.tonnage == b.tonnage &&
+           a.length == b.length;
+}
+
+/* The fields of a sheet as the header has them are what the calls say of it. */
+static void fields(void) {
+    fummidrake_sheet sheet = fummidrake_mark(three_spaces(), 2, 3).sheet;
+    sheet = fummidrake_undo(fummidrake_withdraw(sheet, 3).sheet).sheet;
+    fummidrake_counted counted = fummidrake_counts(sheet);
+    HOLDS(sheet.opened == 1 && fummidrake_is_open(sheet));
+    HOLDS(sheet.length == 4800 && fummidrake_tonnage_length(sheet) == 4800);
+    HOLDS(sheet.count == 3 && fummidrake_standing_count(sheet) == 3);
+    for (size_t place = 0; place < 3; place++)
+        HOLDS(same_space(sheet.spaces[place], fummidrake_space_at(sheet, place)));
+    HOLDS(sheet.undoable == 4 && counted.undoable == 4);
+    HOLDS(sheet.redoable == 1 && counted.redoable == 1);
+    fummidrake_open_change entry = sheet.changes[0], mark = sheet.changes[3], withdrawal = sheet.changes[4];
+    HOLDS(entry.made == 0 && same_space(entry.space, sheet.spaces[0]));
+    HOLDS(mark.made == 2 && mark.place == 1 && mark.before == 2 && mark.after == 3);
+    HOLDS(withdrawal.made == 1 && withdrawal.place == 2 && same_space(withdrawal.space, sheet.spaces[2]));
+}
+
+/* Lists of any length, with nothing that may be read before or behind them. */
+static void lists(void) {
+    room heights = new_room(), breadths = new_room();
+    fummidrake_sheet sheet = fummidrake_open(4800).sheet;
+    for (int turn = 0; turn < 4000; turn++) {
+        size_t h = any(10), b = any(3) ? h * (1 + any(7)) : any(60);
+        uint32_t *hs = (uint32_t *)placed(heights, 4 * h, any(2)), *bs = (uint32_t *)placed(breadths, 4 * b, any(2));
+        for (size_t i = 0; i < h; i++)
+            hs[i] = (uint32_t)any(any(20) ? 20001 : UINT64_C(1) << 32);
+        for (size_t i = 0; i < b; i++)
+            bs[i] = (uint32_t)any(any(20) ? 30001 : UINT64_C(1) << 32);
+        fummidrake_entry entry = {1, 0, (uint8_t)any(7), 0, any(2) ? 4800 : (uint32_t)any(9000)};
+        HOLDS(fummidrake_enter(sheet, entry, hs, h, bs, b).number <= 10);
+    }
+}
+
+/* Buffers and files of any length: no byte outside is touched, and none inside but those written. */
+static void buffers(void) {
+    room r = new_room();
+    fummidrake_sheet sheet = three_spaces();
+    for (int turn = 0; turn < 4000; turn++) {
+        size_t bytes = any(160), at = any(160);
+        uint8_t *buf = placed(r, bytes, any(2)), before[160], fill = (uint8_t)any(256);
+        memset(buf, fill, bytes);
+        fummidrake_written answer = fummidrake_write(sheet, 0, buf, bytes, at);
+        bool fits = at <= bytes && bytes - at >= 76;
+        HOLDS(answer.number == (fits ? 0 : 15) && answer.bytes == (fits ? 76 : 0));
+        for (size_t i = 0; i < bytes; i++)
+            HOLDS((fits && at <= i && i < at + 76) || buf[i] == fill);
+        memcpy(before, buf, bytes);
+        size_t part = any(2) && fits ? at + 76 : any(bytes + 1);
+        uint8_t *file = placed(r, part, any(2));
+        memcpy(file, before, part);
+        fummidrake_reading reading = fummidrake_read(file, part);
+        HOLDS(!fits || part != at + 76 || (reading.number == 0 && reading.start == at));
+        HOLDS((fummidrake_list(file, part).text[0] == 'R') == (reading.number != 0));
+    }
+}
+
+/* Every call on a sheet, whatever its bytes are: it ends, and one that isn't open is refused with 1. */
+static void every_call(fummidrake_sheet sheet) {
+    uint32_t ten = 1000;
+    uint8_t buf[4096], unopened = fummidrake_is_open(sheet) ? 0 : 1, justified = (uint8_t)any(3);
+    uint16_t id = sheet.spaces[any(200)].id;
+    uint8_t numbers[] = {
+        fummidrake_enter(sheet, (fummidrake_entry){id, 1, 5, 0, 500}, &ten, 1, &ten, 1).number,
+        fummidrake_withdraw(sheet, id).number,
+        fummidrake_mark(sheet, id, (uint8_t)any(5)).number,
+        fummidrake_undo(sheet).number,
+        fummidrake_redo(sheet).number,
+        fummidrake_report(sheet, justified).number,
+        fummidrake_write(sheet, justified, buf, sizeof buf, any(4200)).number,
+    };
+    for (size_t i = 0; i < sizeof numbers; i++)
+        HOLDS(unopened ? numbers[i] == 1 : numbers[i] <= 15 && numbers[i] != 1);
+    HOLDS(fummidrake_standing_count(sheet) <= 200 && fummidrake_counts(sheet).undoable <= 64);
+    HOLDS(same_space(fummidrake_space_at(sheet, fummidrake_standing_count(sheet)), (fummidrake_space){0}));
+}
+
+static void any_bytes(void) {
+    fummidrake_sheet sheet;
+    memset(&sheet, 0, sizeof sheet);
+    every_call(sheet);
+    memset(&sheet, 255, sizeof sheet);
+    every_call(sheet);
+    for (int turn = 0; turn < 2000; turn++) {
+        for (size_t i = 0; i < sizeof sheet; i++)
+            ((uint8_t *)&sheet)[i] = (uint8_t)any(any(2) ? 256 : 4);
+        every_call(sheet);
+        sheet.opened = 1;
+        sheet.count = any(201);
+        sheet.undoable = any(65);
+        sheet.redoable = any(65 - sheet.undoable);
+        HOLDS(fummidrake_is_open(sheet));
+        every_call(sheet);
+    }
+}
+
+int main(void) {
+    fields();
+    lists();
+    buffers();
+    any_bytes();
+    return 0;
+}
