@@ -163,6 +163,12 @@ size_t fummidrake_standing_count(fummidrake_sheet sheet);
 /* Gives the space at a place of the order of entry, from 0; all zeros where none stands there. */
 fummidrake_space fummidrake_space_at(fummidrake_sheet sheet, size_t place);
 
+/* Says how many stations the rules ask of a space of a kind and length: one for an H or R. */
+size_t fummidrake_stations(uint8_t kind, uint32_t tonnage_length, uint32_t length);
+
+/* Says how many breadths the rules ask at each station; for a U that depends on the depth at its middle station. */
+size_t fummidrake_breadths_at_station(uint8_t kind, uint32_t middle);
+
 /* Writes the sheet with its justified mark into a buffer, from the byte `at` on: 16 bytes a space and 28 behind them; no byte
  * before or after is touched, and none where refused, with 1, 2, 13, 14, 15. */
 fummidrake_written fummidrake_write(fummidrake_sheet sheet, uint8_t justified, uint8_t *buf, size_t buf_bytes, size_t at);

@@ -46,16 +46,22 @@ static void write_into(uint8_t *file, fummidrake_sheet sheet) {
     printf("\n");
 }
 
+/* Enters the under-deck part: as many depths and breadths as the rules ask, at the most 17 stations with 7 breadths each. */
+static fummidrake_sheet with_under_deck(fummidrake_sheet sheet) {
+    fummidrake_entry under_deck = {.id = 1, .kind = 1, .length = 4800};
+    uint32_t depths[17], breadths[17 * 7];
+    size_t stations = fummidrake_stations(1, 4800, 4800);
+    size_t all_breadths = stations * fummidrake_breadths_at_station(1, 1200);
+    for (size_t i = 0; i < stations; i++)
+        depths[i] = 1200;
+    for (size_t i = 0; i < all_breadths; i++)
+        breadths[i] = 2000;
+    return answered("enter", fummidrake_enter(sheet, under_deck, depths, stations, breadths, all_breadths));
+}
+
 /* Opens the sheet and enters its five spaces. */
 static fummidrake_sheet whole_sheet(void) {
-    uint32_t depths[7], breadths[7 * 5];
-    for (size_t i = 0; i < 7; i++)
-        depths[i] = 1200;
-    for (size_t i = 0; i < 7 * 5; i++)
-        breadths[i] = 2000;
-    fummidrake_sheet sheet = answered("open", fummidrake_open(4800));
-    fummidrake_entry under_deck = {.id = 1, .kind = 1, .length = 4800};
-    sheet = answered("enter", fummidrake_enter(sheet, under_deck, depths, 7, breadths, 7 * 5));
+    fummidrake_sheet sheet = with_under_deck(answered("open", fummidrake_open(4800)));
     fummidrake_entry superstructure = {.id = 2, .kind = 3, .length = 1600};
     sheet = answered("enter", fummidrake_enter(sheet, superstructure, (uint32_t[]){800, 800, 800}, 3,
                                                (uint32_t[]){1000, 1000, 1000}, 3));

@@ -135,6 +135,8 @@ mod calls {
         pub safe fn fummidrake_tonnage_length(sheet: Sheet) -> u32;
         pub safe fn fummidrake_standing_count(sheet: Sheet) -> usize;
         pub safe fn fummidrake_space_at(sheet: Sheet, place: usize) -> Space;
+        pub safe fn fummidrake_stations(kind: u8, tonnage_length: u32, length: u32) -> usize;
+        pub safe fn fummidrake_breadths_at_station(kind: u8, middle: u32) -> usize;
         pub fn fummidrake_write(sheet: Sheet, justified: u8, buf: *mut u8, buf_bytes: usize, at: usize) -> Written;
         pub fn fummidrake_read(file: *const u8, file_bytes: usize) -> Reading;
         pub fn fummidrake_list(file: *const u8, file_bytes: usize) -> Listing;
@@ -202,6 +204,16 @@ impl Sheet {
         // SAFETY: the pointer and its bytes are one slice's, lent for the call alone.
         unsafe { calls::fummidrake_write(self, justified, buf.as_mut_ptr(), buf.len(), at) }
     }
+}
+
+/// How many stations the rules ask of a space of a kind and length: one for an H or R.
+pub fn stations(kind: u8, tonnage_length: u32, length: u32) -> usize {
+    calls::fummidrake_stations(kind, tonnage_length, length)
+}
+
+/// How many breadths the rules ask at each station; for a U that depends on the depth at its middle station.
+pub fn breadths_at_station(kind: u8, middle: u32) -> usize {
+    calls::fummidrake_breadths_at_station(kind, middle)
 }
 
 /// Reads the last sheet of a file; `&file[..start]` are the earlier sheets, read the same way.

@@ -2,7 +2,7 @@
 //! line for each call: its name and its answer.
 mod fummidrake;
 
-use fummidrake::{list, read, Changed, Entry, Reported, Sheet};
+use fummidrake::{breadths_at_station, list, read, stations, Changed, Entry, Reported, Sheet};
 use std::io::Write;
 
 /// Prints the answer to a change, an undo or a redo, and hands on the sheet after it.
@@ -40,8 +40,10 @@ fn whole_sheet() -> Sheet {
     let ballast = Entry { id: 3, within: 1, kind: 5, standing: 2, length: 1000 };
     let deducted = Entry { id: 4, within: 2, kind: 5, standing: 3, length: 800 };
     let hatchway = Entry { id: 5, kind: 4, length: 500, ..Entry::default() };
+    let depths = vec![1200; stations(1, 4800, 4800)];
+    let breadths = vec![2000; depths.len() * breadths_at_station(1, 1200)];
     let mut sheet = answered("open", Sheet::open(4800));
-    sheet = answered("enter", sheet.enter(under_deck, &[1200; 7], &[2000; 7 * 5]));
+    sheet = answered("enter", sheet.enter(under_deck, &depths, &breadths));
     sheet = answered("enter", sheet.enter(superstructure, &[800; 3], &[1000; 3]));
     sheet = answered("enter", sheet.enter(ballast, &[400], &[1000]));
     sheet = answered("enter", sheet.enter(deducted, &[800], &[500]));

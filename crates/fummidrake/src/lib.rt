@@ -5,6 +5,10 @@
 use dayfile::Reading;
 use dayfile::Written;
 use listing::Listing;
+use measure::kinds::kind_of;
+use measure::offsets::breadths_at_station;
+use measure::offsets::stations;
+use measure::units::Hundredths;
 use sheet::Changed;
 use sheet::Counted;
 use sheet::Entry;
@@ -13,6 +17,9 @@ use sheet::Sheet;
 use spaces::space::Space;
 ghost use mathlib.Core.Path.{_≡_};
 ghost use lib.ListN.{length};
+ghost use Rattle.measure.specs.Kinds.{kindOf};
+ghost use Rattle.measure.specs.Volumes.{hundredths};
+ghost use Rattle.measure.specs.Offsets.{stations as stationsOf, breadthsAtStation};
 ghost use Rattle.sheet.specs.Sheet.{usable, lengthOf, standingCount, spaceAt};
 ghost use Rattle.sheet.specs.Calls.{openedWith, entered, withdrawn, marked, undone, redone, counted, reported};
 ghost use Rattle.dayfile.specs.Writing.{written, writtenInto};
@@ -106,6 +113,24 @@ pub extern "C" fn fummidrake_space_at(sheet: Sheet, place: usize) -> Space
     ensures { λ r. ⌜ r ≡ spaceAt sheet place ⌝ }
 {
     sheet.space_at(place)
+}
+
+#[no_mangle]
+pub extern "C" fn fummidrake_stations(kind: u8, tonnage_length: u32, length: u32) -> usize
+    ensures { λ r. ⌜ r ≡ stationsOf (kindOf kind) (hundredths «tonnage_length») (hundredths length) ⌝ }
+{
+    stations(
+        kind_of(kind),
+        Hundredths(tonnage_length),
+        Hundredths(length),
+    )
+}
+
+#[no_mangle]
+pub extern "C" fn fummidrake_breadths_at_station(kind: u8, middle: u32) -> usize
+    ensures { λ r. ⌜ r ≡ breadthsAtStation (kindOf kind) (hundredths middle) ⌝ }
+{
+    breadths_at_station(kind_of(kind), Hundredths(middle))
 }
 
 #[no_mangle]
