@@ -16,6 +16,7 @@ CLAUSE = re.compile(r'\s*(requires|ensures)\b[^{]*')
 EQUALITY = re.compile(r'⌜ \(?(?:r|now r|now \(\S+ \.exit\)) ≡ ')
 
 SECOND_ANSWER = Path('crates/demands/proofs/NoSecondAnswer.antt')
+EXPORTED = 'fummidrake_'  # a call for C and Rust, with the promise of the call that it wraps
 ROW = re.compile(r'^  «?([\w-]+)»? : Public ', re.M)
 
 
@@ -65,7 +66,7 @@ def main() -> int:
         if not library.exists():
             continue
         for name, requires, ensures in public_functions(source.read_text()):
-            public.add(name)
+            public.add(name.removeprefix(EXPORTED))
             wrong = fault(requires, ensures)
             faults += bool(wrong)
             if wrong or '-v' in sys.argv:
