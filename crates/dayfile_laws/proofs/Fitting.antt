@@ -18,9 +18,9 @@ use Rattle.measure.proofs.laws.Ranges.{within-most}
 use Rattle.spaces.specs.Space.{isRoom, mayTake}
 use Rattle.spaces.specs.Gross.{gross, net}
 use Rattle.spaces.specs.declared.space.Space.{Space}
-use Rattle.spaces.proofs.laws.Cases.{by-test, not-both}
+use Rattle.spaces.proofs.laws.Cases.{by-test, not-both, or-fails}
 use Rattle.spaces.proofs.laws.Standing.{kind-outside, standing-outside}
-use Rattle.spaces_laws.proofs.Tests.{or-fails, and-fails}
+use Rattle.spaces_laws.proofs.Tests.{and-fails}
 use Rattle.spaces_laws.proofs.Lists.{_∈_, found-stands}
 use Rattle.spaces_laws.proofs.Valid.{Sound, valid-is-sound}
 use Rattle.spaces_laws.proofs.Report.{net-at-most-gross, gross-bounded}

@@ -1,74 +1,29 @@
 -- Read, then written: a sheet that was read has exactly the bytes it was read from. Stands on Records, WrittenRead, Writing.
 use Prim.Native.Nat.{ℕ, zero, suc, _+_, _*_, _-_, _≤_, _<_}
 use mathlib.Core.Path.{_≡_, refl, sym, ap, _∙_}
-use mathlib.Core.Bool.{Bool, false, not, _||_}
-use mathlib.Core.List.{List, [], _∷_, _++_, append-nil}
+use mathlib.Core.List.{List, [], _++_, append-nil}
 use native.Mathlib.Omega.{arith}
-use borrow.Author.Tests.{not-false, eqb-true, eqb-false}
-use lib.Dec.{eqb}
 use lib.ListN.{length, take, drop, length-drop, take-append-drop, drop-of-length-le}
 use lib.Seq.{take-all, drop-drop}
 use Rattle.measure.proofs.laws.Volumes.{at-most-drop}
 use Rattle.spaces.specs.Gross.{gross, net}
 use Rattle.spaces.specs.declared.space.Space.{Space}
-use Rattle.spaces.proofs.laws.Cases.{by-test}
-use Rattle.spaces_laws.proofs.Tests.{or-fails}
 use Rattle.sheet.specs.Sheet.{standing}
-use Rattle.sheet.specs.Calls.{reported}
 use Rattle.sheet.specs.Resume.{firstRefused}
 use Rattle.sheet.specs.declared.sheet.Sheet.{Sheet}
-use Rattle.sheet.proofs.laws.Calls.{passed}
 use Rattle.sheet_laws.proofs.Resumable.{resumable-exactly, OfRecords}
 use Rattle.dayfile.specs.Numbers.{Bytes}
 use Rattle.dayfile.specs.Record.{recordSize, records, recordsIn, spacesOf}
 use Rattle.dayfile.specs.Trailer.{trailerSize, sheetSize, trailerBytes}
 use Rattle.dayfile.specs.Writing.{trailerFor, sheetBytes, writtenInto}
-use Rattle.dayfile.specs.Reading.{lastTrailer, startOf, lastRecords, noSheet, faultIn, sheetIn, trailerTests, readNumber, refusedReading, acceptedReading, readOf}
+use Rattle.dayfile.specs.Reading.{lastTrailer, startOf, lastRecords, faultIn, sheetIn, acceptedReading, readOf}
 use Rattle.dayfile.proofs.laws.Trailer.{tonnage-length-fits}
 use Rattle.dayfile.proofs.laws.Writing.{trailer-is}
-use Rattle.dayfile.proofs.laws.Reading.{Framed, framed, count-fits, judged}
+use Rattle.dayfile.proofs.laws.Reading.{Framed, framed, count-fits, judged, ReadingAccepted, reading-accepted}
 use Rattle.dayfile_laws.proofs.Records.{records-written, trailer-written}
 use Rattle.dayfile_laws.proofs.Writable.{ResumableSheet, Writable, standing-same, length-same, has-200-places, made-again}
-use Rattle.dayfile_laws.proofs.Writing.{after-report, Puts, puts-its-bytes}
+use Rattle.dayfile_laws.proofs.Writing.{Puts, puts-its-bytes}
 use Rattle.dayfile_laws.proofs.WrittenRead.{asRead, has-places, written-then-read}
-
--- ---- what is known of a file whose reading is accepted
-
-pub record ReadingAccepted (file : List ℕ) : Type 0 where
-  -- 16, 17, then 13 or 14, then 18, none of which applies
-  pub ends-in-sheet : noSheet file ≡ false
-  pub no-fault : faultIn file ≡ 0
-  pub reports : reported (sheetIn file) (lastTrailer file .justified) .number ≡ 0
-  pub gross-is : gross (standing (sheetIn file)) ≡ lastTrailer file .gross
-  pub net-is : net (standing (sheetIn file)) ≡ lastTrailer file .net
-  pub reading-is : readOf file ≡ acceptedReading (sheetIn file) (lastTrailer file .justified) (startOf file)
-
-none-applies : (file : List ℕ) → readNumber file ≡ 0
-    → readOf file ≡ acceptedReading (sheetIn file) (lastTrailer file .justified) (startOf file) → ReadingAccepted file
-unfolding readNumber
-none-applies file e same =
-    let s = sheetIn file in
-    let t = lastTrailer file in
-    let figures : List (Bool × ℕ) = (not (eqb (gross (standing s)) (t .gross)) || not (eqb (net (standing s)) (t .net)), 18) ∷ [] in
-    let a = passed (noSheet file) 16 ((not (eqb (faultIn file) 0), 17) ∷ trailerTests s t) e (λ z. omega arith) in
-    let b = passed (not (eqb (faultIn file) 0)) 17 (trailerTests s t) (a .1) (λ z. omega arith) in
-    let c = after-report (reported s (t .justified) .number) figures (b .1) in
-    let d = or-fails _ _ (passed _ 18 [] (c .1) (λ z. omega arith) .0) in
-    record {
-      ends-in-sheet = a .0;
-      no-fault = eqb-true _ 0 (not-false _ (b .0));
-      reports = c .0;
-      gross-is = eqb-true _ _ (not-false _ (d .0));
-      net-is = eqb-true _ _ (not-false _ (d .1));
-      reading-is = same;
-    }
-
-pub reading-accepted : (file : List ℕ) → readOf file .number ≡ 0 → ReadingAccepted file
-unfolding readOf refusedReading
-reading-accepted file e =
-    by-test (eqb (readNumber file) 0)
-    (λ t. none-applies file (eqb-true _ 0 t) (rw t))
-    (λ f. let z : readNumber file ≡ 0 = rw f at e in absurd (eqb-false _ 0 f z))
 
 -- ---- its sheet, and the bytes of it
 

@@ -10,8 +10,7 @@ use lib.ListN.{length, take, drop, getD, length-drop}
 use lib.Seq.{drop-at, take-add}
 use Rattle.measure.proofs.laws.Volumes.{at-most-drop}
 use Rattle.spaces.specs.declared.space.Space.{Space}
-use Rattle.spaces.proofs.laws.Cases.{by-test}
-use Rattle.spaces_laws.proofs.Tests.{or-fails}
+use Rattle.spaces.proofs.laws.Cases.{by-test, or-fails}
 use Rattle.spaces_laws.proofs.Lists.{_∈_}
 use Rattle.sheet.specs.declared.sheet.Sheet.{Sheet}
 use Rattle.dayfile.specs.Numbers.{Bytes}

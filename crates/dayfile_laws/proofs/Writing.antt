@@ -1,18 +1,16 @@
 -- What a write does to a buffer, accepted or refused: "no byte before or after is touched". Stands on nothing of the file's numbers.
 use Prim.Native.Nat.{ℕ, _+_, _-_, _≤_}
 use mathlib.Core.Path.{_≡_, refl, sym, ap, _∙_}
-use mathlib.Core.Bool.{Bool, not}
 use mathlib.Core.List.{List, [], _∷_, _++_, append-assoc}
 use native.Mathlib.Omega.{arith}
-use borrow.Author.Tests.{eq-eqb, eqb-true, eqb-false, ltb-false}
+use borrow.Author.Tests.{eq-eqb, eqb-true, ltb-false}
 use lib.Dec.{eqb, ltb}
 use lib.ListN.{length, take, drop, length-append, length-drop}
 use lib.Seq.{length-take-le, take-at, drop-at}
-use Rattle.measure.specs.Refusals.{firstOf}
 use Rattle.spaces.proofs.laws.Cases.{by-test}
 use Rattle.sheet.specs.Calls.{reported}
 use Rattle.sheet.specs.declared.sheet.Sheet.{Sheet}
-use Rattle.sheet.proofs.laws.Calls.{passed}
+use Rattle.sheet.proofs.laws.Calls.{passed, after-call}
 use Rattle.dayfile.specs.Trailer.{sheetSize}
 use Rattle.dayfile.specs.Writing.{sheetBytes, writeNumber, written, placed, writtenInto}
 use Rattle.dayfile.proofs.laws.Writing.{length-sheet, room}
@@ -48,13 +46,6 @@ module _ (buffer : List ℕ) (at : ℕ) (bytes : List ℕ) (room : at + length b
 
 -- ---- an accepted write
 
--- where a refused report's number is the first test's, and no number is given, the report is given and no other test applies
-pub after-report : (n : ℕ) (tests : List (Bool × ℕ)) → firstOf ((not (eqb n 0), n) ∷ tests) ≡ 0 → (n ≡ 0) × (firstOf tests ≡ 0)
-after-report n tests e =
-    by-test (eqb n 0)
-    (λ t. (eqb-true n 0 t, rw t at e))
-    (λ f. let z : n ≡ 0 = rw f at e in absurd (eqb-false n 0 f z))
-
 pub record WriteAccepted (s : Sheet) (justified at : ℕ) (buffer : List ℕ) : Type 0 where
   pub reports : reported s justified .number ≡ 0
   pub room : at + sheetSize (s .count) ≤ length buffer
@@ -66,7 +57,7 @@ pub write-accepted : (s : Sheet) (justified at : ℕ) (buffer : List ℕ) → wr
 unfolding writeNumber written writtenInto
 write-accepted s justified at buffer e =
     let short = ltb (length buffer - at) (sheetSize (s .count)) in
-    let r = after-report (reported s justified .number) ((short, 15) ∷ []) e in
+    let r = after-call (reported s justified .number) ((short, 15) ∷ []) e in
     let fits : sheetSize (s .count) ≤ length buffer - at = ltb-false _ _ (passed short 15 [] (r .1) (λ z. omega arith) .0) in
     let zero = eq-eqb (writeNumber s justified (length buffer) at) 0 e in
     record {

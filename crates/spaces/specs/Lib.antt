@@ -6,3 +6,4 @@ pub mod Enclosure
 pub mod Rules
 pub mod Gross
 pub mod Valid
+pub mod Handed

@@ -12,7 +12,8 @@ ghost use Prim.Native.Nat.{_≤_, _<_};
 ghost use lib.ListN.{take};
 ghost use Rattle.spaces.specs.Space.{isPlain};
 ghost use Rattle.spaces.specs.Row.{foundAs};
-ghost use Rattle.spaces.specs.Enclosure.{enclosing as enclosingIn, upward, walked, pastOf, allPlain, below, enclosingPlace, EnclosingPlaces, leadsTo};
+ghost use Rattle.spaces.specs.Enclosure.{enclosing as enclosingIn, upward, allPlain, below};
+ghost use Rattle.spaces.specs.Handed.{walked, pastOf, enclosingPlace, EnclosingPlaces, leadsTo};
 
 // What a walk upward met: how many spaces, and whether all are plain.
 pub struct Above {

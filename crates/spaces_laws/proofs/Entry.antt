@@ -14,8 +14,8 @@ use Rattle.spaces.specs.Space.{isUnderDeck, isHatchway, isRoom, isPlain, mayTak
 use Rattle.spaces.specs.Row.{find, isSome, sumOf}
 use Rattle.spaces.specs.Enclosure.{enclosing, above, level, allPlain}
 use Rattle.spaces.specs.Rules.{idRefused, unhoused, inHatchway, misplaced, tooDeep, offTwice, passesEnclosing, overfull, noPlace, entryTests, entryNumber}
-use Rattle.spaces.proofs.laws.Cases.{by-test}
-use Rattle.spaces_laws.proofs.Tests.{or-fails, or-fails-of, and-fails, and-fails-of}
+use Rattle.spaces.proofs.laws.Cases.{by-test, or-fails}
+use Rattle.spaces_laws.proofs.Tests.{or-fails-of, and-fails, and-fails-of}
 use Rattle.spaces_laws.proofs.Refusals.{none-applies, accepted-of-none}
 use Rattle.spaces_laws.proofs.Lists.{some-of, none-of}
 use Rattle.spaces_laws.proofs.Walk.{enclosing-of-other, enclosing-of-room}

@@ -3,10 +3,6 @@ use mathlib.Core.Path.{_≡_, refl}
 use mathlib.Core.Bool.{Bool, true, false, _&&_, _||_}
 use Rattle.spaces.proofs.laws.Cases.{not-both}
 
-pub or-fails : (a b : Bool) → (a || b) ≡ false → (a ≡ false) × (b ≡ false)
-or-fails true b e = not-both refl e
-or-fails false b e = (refl, e)
-
 pub or-fails-of : (a b : Bool) → a ≡ false → b ≡ false → (a || b) ≡ false
 or-fails-of a b p q = rw p q
 

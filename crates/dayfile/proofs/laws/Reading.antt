@@ -13,6 +13,7 @@ use Rattle.measure.specs.Refusals.{firstOf}
 use Rattle.spaces.specs.Space.{emptySpace}
 use Rattle.spaces.specs.Gross.{gross, net}
 use Rattle.spaces.specs.declared.space.Space.{Space}
+use Rattle.spaces.proofs.laws.Cases.{by-test, or-fails}
 use Rattle.sheet.specs.Sheet.{standing, blank}
 use Rattle.sheet.specs.Changes.{withStanding}
 use Rattle.sheet.specs.Calls.{reported}
@@ -20,6 +21,7 @@ use Rattle.sheet.specs.Resume.{recordNumber, firstRefused, resumed}
 use Rattle.sheet.specs.declared.sheet.Sheet.{Sheet}
 use Rattle.sheet.specs.declared.resume.RefusedRecord.{RefusedRecord}
 use Rattle.sheet.specs.declared.resume.Resumed.{Resumed}
+use Rattle.sheet.proofs.laws.Calls.{passed, after-call}
 use Rattle.dayfile.specs.Fields.{fitting}
 use Rattle.dayfile.specs.Record.{recordFields, recordsIn, spaceOf, spacesOf}
 use Rattle.dayfile.specs.Trailer.{trailerSize, sheetSize, trailerRight}
@@ -50,13 +52,6 @@ pub record Framed (file : List ℕ) : Type 0 where
   pub long : trailerSize ≤ length file
   pub right : trailerRight (lastNumbers file) ≡ true
   pub reaches : sheetSize (lastTrailer file .count) ≤ length file
-
-or-fails : (a b : Bool) → (a || b) ≡ false → (a ≡ false) × (b ≡ false)
-or-fails true b e = absurd (not-false e)
-  where
-    not-false : true ≡ false → ⊥
-    not-false e = let z : _≡_ {A = ℕ} 0 1 = cc in omega arith
-or-fails false b e = (refl, e)
 
 pub framed : (file : List ℕ) → noSheet file ≡ false → Framed file
 unfolding noSheet
@@ -224,3 +219,41 @@ module _ (s : Sheet) (t : Trailer) (start : ℕ) where
       → acceptedReading s (t .justified) start ≡ judgedReading s t start
   unfolding judgedReading
   same-figures e g n = rw (e, eq-eqb (gross (standing s)) (t .gross) g, eq-eqb (net (standing s)) (t .net) n)
+
+-- ---- a file whose reading is accepted
+
+pub record ReadingAccepted (file : List ℕ) : Type 0 where
+  -- 16, 17, then 13 or 14, then 18, none of which applies
+  pub ends-in-sheet : noSheet file ≡ false
+  pub no-fault : faultIn file ≡ 0
+  pub reports : reported (sheetIn file) (lastTrailer file .justified) .number ≡ 0
+  pub gross-is : gross (standing (sheetIn file)) ≡ lastTrailer file .gross
+  pub net-is : net (standing (sheetIn file)) ≡ lastTrailer file .net
+  pub reading-is : readOf file ≡ acceptedReading (sheetIn file) (lastTrailer file .justified) (startOf file)
+
+none-applies : (file : List ℕ) → readNumber file ≡ 0
+    → readOf file ≡ acceptedReading (sheetIn file) (lastTrailer file .justified) (startOf file) → ReadingAccepted file
+unfolding readNumber
+none-applies file e same =
+    let s = sheetIn file in
+    let t = lastTrailer file in
+    let figures : List (Bool × ℕ) = (not (eqb (gross (standing s)) (t .gross)) || not (eqb (net (standing s)) (t .net)), 18) ∷ [] in
+    let a = passed (noSheet file) 16 ((not (eqb (faultIn file) 0), 17) ∷ trailerTests s t) e (λ z. omega arith) in
+    let b = passed (not (eqb (faultIn file) 0)) 17 (trailerTests s t) (a .1) (λ z. omega arith) in
+    let c = after-call (reported s (t .justified) .number) figures (b .1) in
+    let d = or-fails _ _ (passed _ 18 [] (c .1) (λ z. omega arith) .0) in
+    record {
+      ends-in-sheet = a .0;
+      no-fault = eqb-true _ 0 (not-false _ (b .0));
+      reports = c .0;
+      gross-is = eqb-true _ _ (not-false _ (d .0));
+      net-is = eqb-true _ _ (not-false _ (d .1));
+      reading-is = same;
+    }
+
+pub reading-accepted : (file : List ℕ) → readOf file .number ≡ 0 → ReadingAccepted file
+unfolding readOf refusedReading
+reading-accepted file e =
+    by-test (eqb (readNumber file) 0)
+    (λ t. none-applies file (eqb-true _ 0 t) (rw t))
+    (λ f. let z : readNumber file ≡ 0 = rw f at e in absurd (eqb-false _ 0 f z))

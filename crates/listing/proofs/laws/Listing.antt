@@ -1,21 +1,18 @@
 -- The text of a sheet from what the sheet hands out, and of a file from how it is read; a text in its buffer.
 use Prim.Native.Nat.{ℕ, _+_, _-_, _<_, _≤_}
 use mathlib.Core.Path.{_≡_, refl, sym, ap, _∙_}
-use mathlib.Core.Bool.{not}
-use mathlib.Core.List.{List, _∷_, _++_}
+use mathlib.Core.List.{List, _++_}
 use native.Mathlib.Omega.{arith}
-use borrow.Author.Tests.{lt-ltb, le-ltb, eq-eqb, ne-eqb, eqb-true, eqb-false}
-use lib.Dec.{eqb}
+use borrow.Author.Tests.{lt-ltb, le-ltb, eq-eqb, ne-eqb}
 use lib.ListN.{length, take, replicate, length-append, length-replicate, replicate-append-replicate}
 use lib.Seq.{sets, sets-eq, drop-at}
-use Rattle.spaces.proofs.laws.Cases.{by-test}
 use Rattle.sheet.specs.Sheet.{lengthOf, standingCount, placesOf}
 use Rattle.sheet.specs.Calls.{reported}
 use Rattle.sheet.specs.declared.sheet.Sheet.{Sheet}
-use Rattle.sheet.proofs.laws.Calls.{passed}
 use Rattle.sheet.proofs.laws.Report.{given, handed-out}
-use Rattle.dayfile.specs.Reading.{noSheet, faultIn, sheetIn, lastTrailer, trailerTests, readNumber, refusedReading, readOf}
+use Rattle.dayfile.specs.Reading.{readOf}
 use Rattle.dayfile.specs.declared.reading.Reading.{Reading}
+use Rattle.dayfile.proofs.laws.Reading.{reading-accepted}
 use Rattle.listing.specs.Text.{ascii}
 use Rattle.listing.specs.Lines.{figureLine, spaceLines, refusalLine}
 use Rattle.listing.specs.Listing.{mostBytes, textSize, sheetText, fileText, listed}
@@ -35,25 +32,6 @@ text-handed-out s justified e =
     let h = handed-out s (g .is-usable) in
     rw (h .length-is, h .count-is, h .places-are, g .gross-is, g .net-is)
 
-module _ (file : List ℕ) where
-  -- no number means that the report was given
-  accepted : readNumber file ≡ 0 → reported (sheetIn file) (lastTrailer file .justified) .number ≡ 0
-  unfolding readNumber
-  accepted e =
-      let n = reported (sheetIn file) (lastTrailer file .justified) .number in
-      let last = trailerTests (sheetIn file) (lastTrailer file) in
-      let fault = not (eqb (faultIn file) 0) in
-      let framed = passed (noSheet file) 16 ((fault, 17) ∷ last) e (λ z. omega arith) in
-      let sound = passed fault 17 last (framed .1) (λ z. omega arith) in
-      by-test (eqb n 0) (λ t. eqb-true n 0 t) (λ f. rw f at (sound .1))
-
-  reports : readOf file .number ≡ 0 → reported (readOf file .sheet) (readOf file .justified) .number ≡ 0
-  unfolding readOf refusedReading
-  reports e =
-      by-test (eqb (readNumber file) 0)
-      (λ t. rw t (accepted (eqb-true _ 0 t)))
-      (λ f. absurd (eqb-false _ 0 f (rw f at e)))
-
 -- what a file's text is, by its size and by how it was read
 pub too-long : (file : List ℕ) → mostBytes < length file → fileText file ≡ refusalLine 16 0
 unfolding fileText
@@ -70,7 +48,9 @@ module _ (file : List ℕ) (r : Reading) (is : r ≡ readOf file) where
 
   -- a sheet that was read can be reported with its mark
   pub read-reports : r .number ≡ 0 → reported (r .sheet) (r .justified) .number ≡ 0
-  read-reports e = rw is (reports file (rw is at e))
+  read-reports e =
+      let a = reading-accepted file (rw is at e) in
+      rw (is, a .reading-is) (a .reports)
 
 abbrev zeros : ℕ → List ℕ
 zeros n = replicate n 0

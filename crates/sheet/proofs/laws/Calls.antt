@@ -3,11 +3,12 @@ use mathlib.Core.Path.{_≡_, refl, sym, ap, _∙_}
 use mathlib.Core.Bool.{Bool, true, false, cond, not}
 use mathlib.Core.List.{List, _∷_}
 use Prim.Native.Nat.{ℕ}
-use borrow.Author.Tests.{ne-eqb}
-use lib.Dec.{leb}
+use borrow.Author.Tests.{ne-eqb, eqb-true, eqb-false}
+use lib.Dec.{eqb, leb}
 use lib.ListN.{length}
 use Rattle.measure.specs.Refusals.{firstOf}
 use Rattle.spaces.specs.declared.space.Space.{Space}
+use Rattle.spaces.proofs.laws.Cases.{by-test}
 use Rattle.sheet.specs.Sheet.{usable}
 use Rattle.sheet.specs.Changes.{withStanding, fitted}
 use Rattle.sheet.specs.Calls.{answered}
@@ -27,6 +28,13 @@ passes b n tests e = ap (λ (t : Bool). cond t n (firstOf tests)) e
 pub passed : (b : Bool) (n : ℕ) (tests : List (Bool × ℕ)) → firstOf ((b, n) ∷ tests) ≡ 0 → (n ≡ 0 → ⊥) → (b ≡ false) × (firstOf tests ≡ 0)
 passed true n tests e h = absurd (h e)
 passed false n tests e h = (refl, e)
+
+-- where a refused call's number is the first test's, and no number is given, that call is accepted and no other test applies
+pub after-call : (n : ℕ) (tests : List (Bool × ℕ)) → firstOf ((not (eqb n 0), n) ∷ tests) ≡ 0 → (n ≡ 0) × (firstOf tests ≡ 0)
+after-call n tests e =
+    by-test (eqb n 0)
+    (λ t. (eqb-true n 0 t, rw t at e))
+    (λ f. let z : n ≡ 0 = rw f at e in absurd (eqb-false n 0 f z))
 
 -- 1 of a sheet that isn't usable, and else what the other tests give
 pub not-open : (s : Sheet) (tests : List (Bool × ℕ)) → usable s ≡ false → firstOf ((not (usable s), 1) ∷ tests) ≡ 1

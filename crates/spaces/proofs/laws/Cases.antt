@@ -1,6 +1,6 @@
 -- Cases of a test and of a space that may stand. Stands on nothing of the spaces.
 use mathlib.Core.Path.{_≡_, refl}
-use mathlib.Core.Bool.{Bool, true, false}
+use mathlib.Core.Bool.{Bool, true, false, _||_}
 use mathlib.Core.Option.{Option, none, some}
 use Prim.Native.Nat.{ℕ}
 use native.Mathlib.Omega.{arith}
@@ -21,3 +21,8 @@ none-not-some {A} {P} {o} {z} p q = absurd (let n : _≡_ {A = ℕ} 0 1 = cc in 
 
 pub some-same : {A : Type 0} {o : Option A} {y z : A} → o ≡ some y → o ≡ some z → y ≡ z
 some-same {A} {o} {y} {z} p q = cc
+
+-- neither of two tests applies
+pub or-fails : (a b : Bool) → (a || b) ≡ false → (a ≡ false) × (b ≡ false)
+or-fails true b e = not-both refl e
+or-fails false b e = (refl, e)

@@ -8,7 +8,8 @@ use native.Mathlib.Numerals.{add-one}
 use native.Mathlib.Omega.{arith}
 use lib.ListN.{length}
 use Rattle.spaces.specs.Space.{isPlain}
-use Rattle.spaces.specs.Enclosure.{enclosing, onward, upward, above, among, allPlain, belowOf, walked, pastOf}
+use Rattle.spaces.specs.Enclosure.{enclosing, onward, upward, above, among, allPlain, belowOf}
+use Rattle.spaces.specs.Handed.{walked, pastOf}
 use Rattle.spaces.specs.declared.space.Space.{Space}
 
 pub upward-some : (left : ℕ) (xs : List Space) (x : Space) {z : Space} → 0 < left → enclosing xs x ≡ some z → upward left xs x ≡ z ∷ upward (left - 1) xs z

@@ -3,7 +3,7 @@ use Prim.Native.Nat.{ℕ, _<_}
 use mathlib.Core.Path.{sym, _∙_}
 use borrow.Author.Tests.{eq-eqb, ne-eqb}
 use native.Mathlib.Omega.{arith}
-use Rattle.spaces.specs.Enclosure.{leadsTo}
+use Rattle.spaces.specs.Handed.{leadsTo}
 use Rattle.spaces.proofs.laws.Places.{leads-nowhere, leads-on}
 use borrow.Fn.Kinds.{In}
 use borrow.Fn.PlainCycle.{Measures, is, falls, and}

@@ -3,7 +3,8 @@ use Prim.Native.Nat.{ℕ, _-_, _<_}
 use mathlib.Core.Path.{sym, ap, _∙_}
 use native.Mathlib.Omega.{arith}
 use lib.ListN.{take}
-use Rattle.spaces.specs.Enclosure.{enclosing, upward, walked, pastOf}
+use Rattle.spaces.specs.Enclosure.{enclosing, upward}
+use Rattle.spaces.specs.Handed.{walked, pastOf}
 use Rattle.spaces.specs.declared.enclosure.Above.{Above}
 use Rattle.spaces.proofs.laws.Found.{found-at, found-nothing}
 use Rattle.spaces.proofs.laws.Enclosure.{upward-some, upward-none, upward-short, walked-past}

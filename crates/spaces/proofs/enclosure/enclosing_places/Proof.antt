@@ -2,7 +2,7 @@
 use Prim.Native.Nat.{_≤_, _-_}
 use mathlib.Core.Path.{_≡_, refl, sym, ap, _∙_}
 use lib.ListN.{length, take, length-set}
-use Rattle.spaces.specs.Enclosure.{enclosingPlace}
+use Rattle.spaces.specs.Handed.{enclosingPlace}
 use Rattle.spaces.proofs.laws.Row.{used-is, standing-at}
 use Rattle.spaces.proofs.laws.Places.{FirstPlaces, one-more-place}
 use borrow.Author.Needs.{needs}

@@ -5,7 +5,8 @@ use mathlib.Core.Bool.{Bool, not, _&&_}
 use mathlib.Core.List.{List}
 use lib.ListN.{length, take, drop, getD}
 use Rattle.spaces.specs.Space.{emptySpace, isPlain}
-use Rattle.spaces.specs.Enclosure.{allPlain, belowOf, below, leadsTo}
+use Rattle.spaces.specs.Enclosure.{allPlain, belowOf, below}
+use Rattle.spaces.specs.Handed.{leadsTo}
 use Rattle.spaces.specs.declared.space.Space.{Space}
 use Rattle.spaces.proofs.laws.Row.{standing-step, standing-end}
 use Rattle.spaces.proofs.laws.Enclosure.{below-step}
