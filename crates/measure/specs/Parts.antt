@@ -1,5 +1,5 @@
 -- How many parts a length or a depth is divided into ("Parts of a length"; "U"). Lengths and depths are in hundredths of a foot.
-use Prim.Native.Nat.{ℕ, zero, suc, _+_, _*_, _≤_}
+use Prim.Native.Nat.{ℕ, zero, suc, _+_, _*_, _≤_, _<_}
 use mathlib.Core.Path.{_≡_}
 use mathlib.Core.Bool.{cond}
 use lib.Dec.{leb, ltb, eqb}
@@ -18,9 +18,24 @@ tableParts l =
     (cond (leb l.0 25000) 14
     16))))
 
+-- The same, a row at a time: the length l has n parts. `tableParts` is such a number, and no other is (measure_laws, Classes).
+pub data ByTable (l : Hundredths) : ℕ → Type 0 where
+  up-to-50 : l.0 ≤ 5000 → ByTable l 6
+  over-50-to-100 : 5000 < l.0 → l.0 ≤ 10000 → ByTable l 8
+  over-100-to-150 : 10000 < l.0 → l.0 ≤ 15000 → ByTable l 10
+  over-150-to-200 : 15000 < l.0 → l.0 ≤ 20000 → ByTable l 12
+  over-200-to-250 : 20000 < l.0 → l.0 ≤ 25000 → ByTable l 14
+  over-250 : 25000 < l.0 → ByTable l 16
+
 -- "a part made by a step: 20 ft or under, two parts; over 20 and under 40, four; 40 or over, the table" (69.109(m)(1))
 unfoldable pub stepParts : Hundredths → ℕ
 stepParts l = cond (leb l.0 2000) 2 (cond (ltb l.0 4000) 4 (tableParts l))
+
+-- the same, a class at a time
+pub data ByStep (l : Hundredths) : ℕ → Type 0 where
+  of-20-or-under : l.0 ≤ 2000 → ByStep l 2
+  over-20-under-40 : 2000 < l.0 → l.0 < 4000 → ByStep l 4
+  of-40-or-over : {n : ℕ} → 4000 ≤ l.0 → ByTable l n → ByStep l n
 
 -- "A U whose length is the tonnage length uses it [the table]. Any other U is a part made by a step."
 unfoldable pub underDeckParts : Hundredths → Hundredths → ℕ

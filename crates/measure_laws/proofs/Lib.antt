@@ -1,5 +1,6 @@
 pub mod Rounding
 pub mod Parts
+pub mod Classes
 pub mod Refusals
 pub mod Offsets
 pub mod Figures
