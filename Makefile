@@ -1,4 +1,4 @@
-# `make run` surveys the example barge, `make examples` does it in C and Rust; `make test` proves and tests everything;
+# `make run` surveys and lists the example barge, `make examples` does it in C and Rust; `make test` proves and tests everything;
 # `make fuzz N=100` compares fresh scripts.
 KIT := rattle-kit-5b logic 064da1ca440f63e7
 
@@ -18,10 +18,11 @@ test: kit
 	@gcc -std=c11 -Wall -Wextra -Wpedantic -Werror -O1 -Iinclude tools/boundary.c target/staticlib/libfummidrake.a -o target/boundary
 	@target/boundary
 
-# Proves the library and the program over it, then plays the example barge's morning.
+# Proves the library and the programs over it, then plays the example barge's morning and lists the sheet that it wrote.
 run: kit
-	@rt check survey > target/run.log 2>&1 || { cat target/run.log; exit 1; }
+	@rt check survey sheetlist > target/run.log 2>&1 || { cat target/run.log; exit 1; }
 	@target/bin/survey < examples/barge.txt
+	@target/bin/sheetlist < examples/barge.day
 
 # Builds and runs the programs in C and Rust by the README's lines, and compares what they print with the second program's answers.
 examples: kit
