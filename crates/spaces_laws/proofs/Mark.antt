@@ -18,10 +18,11 @@ use Rattle.spaces.specs.Enclosure.{enclosing, upward, above, allPlain, below}
 use Rattle.spaces.specs.Rules.{cannotTake, plainAbove, markedTwice, markNumber}
 use Rattle.spaces.specs.Valid.{ValidFrom, done, next, Valid}
 use Rattle.spaces.proofs.laws.Cases.{by-test, by-option, not-both}
+use Rattle.spaces.proofs.laws.Enclosure.{upward-next, upward-none}
 use Rattle.spaces_laws.proofs.Tests.{and-fails, and-fails-of, and-holds}
 use Rattle.spaces_laws.proofs.Refusals.{none-applies, accepted-of-none}
 use Rattle.spaces_laws.proofs.Lists.{_∈_, unfound-absent, some-of}
-use Rattle.spaces_laws.proofs.Walk.{upward-some, upward-none, upward-stands, plain-of-all, all-plain-of, below-exactly}
+use Rattle.spaces_laws.proofs.Walk.{upward-stands, plain-of-all, all-plain-of, below-exactly}
 use Rattle.spaces_laws.proofs.Entry.{Accepted, facts-of-entry, entry-of-facts}
 use Rattle.spaces_laws.proofs.Valid.{Sound, above-kept, same-by-id, sound-empty, sound-entered, valid-is-sound}
 use Rattle.spaces_laws.proofs.Changes.{marking, marked}
@@ -102,11 +103,11 @@ module _ (id standing : ℕ) where
   upward-marked (suc left) xs y =
       by-option (enclosing xs y)
       (λ e.
-      upward-none left (map new xs) (new y) (enclosing-marked xs y ∙ ap newSome e) ∙ sym (ap (map new) (upward-none left xs y e)))
+      upward-none (suc left) (map new xs) (new y) (enclosing-marked xs y ∙ ap newSome e) ∙ sym (ap (map new) (upward-none (suc left) xs y e)))
       (λ z e.
-      upward-some left (map new xs) (new y) (enclosing-marked xs y ∙ ap newSome e)
+      upward-next left (map new xs) (new y) (enclosing-marked xs y ∙ ap newSome e)
       ∙ ap (λ (l : List Space). new z ∷ l) (upward-marked left xs z)
-      ∙ sym (ap (map new) (upward-some left xs y e)))
+      ∙ sym (ap (map new) (upward-next left xs y e)))
 
   -- ---- an entry after the spaces so marked
 

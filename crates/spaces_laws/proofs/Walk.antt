@@ -15,6 +15,7 @@ use Rattle.spaces.specs.Space.{isRoom, isPlain}
 use Rattle.spaces.specs.Row.{find}
 use Rattle.spaces.specs.Enclosure.{enclosing, upward, above, level, allPlain, among, belowOf, below}
 use Rattle.spaces.proofs.laws.Cases.{by-test, by-option, not-both, none-not-some}
+use Rattle.spaces.proofs.laws.Enclosure.{upward-next, upward-none}
 use Rattle.spaces_laws.proofs.Tests.{and-holds, and-holds-of}
 use Rattle.spaces_laws.proofs.Lists.{_∈_, find-before, found-stands}
 
@@ -31,20 +32,14 @@ enclosing-stands xs y {z} e =
     (λ r. found-stands (y .within) xs {z = z} (sym (enclosing-of-room xs y r) ∙ e) .0)
     (λ r. none-not-some (enclosing-of-other xs y r) e)
 
-pub upward-some : (left : ℕ) (xs : List Space) (x : Space) {z : Space} → enclosing xs x ≡ some z → upward (suc left) xs x ≡ z ∷ upward left xs z
-upward-some left xs x e = rw e
-
-pub upward-none : (left : ℕ) (xs : List Space) (x : Space) → enclosing xs x ≡ none → upward (suc left) xs x ≡ []
-upward-none left xs x e = rw e
-
 pub upward-stands : (left : ℕ) (xs : List Space) (y z : Space) → z ∈ upward left xs y → z ∈ xs
 upward-stands zero xs y z m = absurd (List·Memᴰ·not-nil m)
 upward-stands (suc left) xs y z m =
     by-option (enclosing xs y)
-    (λ e. absurd (List·Memᴰ·not-nil (subst (λ (l : List Space). z ∈ l) (upward-none left xs y e) m)))
+    (λ e. absurd (List·Memᴰ·not-nil (subst (λ (l : List Space). z ∈ l) (upward-none (suc left) xs y e) m)))
     (λ t e.
     ⊎-elim (λ (q : z ≡ t). Memᴰ·cast q (enclosing-stands xs y e)) (λ (a : z ∈ upward left xs t). upward-stands left xs t z a)
-    (List·Memᴰ·cases-cons (subst (λ (l : List Space). z ∈ l) (upward-some left xs y e) m)))
+    (List·Memᴰ·cases-cons (subst (λ (l : List Space). z ∈ l) (upward-next left xs y e) m)))
 
 -- each room of a sheet has its enclosing space there
 abbrev pub Closed : List Space → Space → Type 0
@@ -59,23 +54,23 @@ upward-append (suc left) xs ys closed y h =
     (λ r.
     let z = h r .0 in
     let e = h r .1 in
-    upward-some left (xs ++ ys) y (enclosing-of-room (xs ++ ys) y r ∙ find-before (y .within) xs ys e)
+    upward-next left (xs ++ ys) y (enclosing-of-room (xs ++ ys) y r ∙ find-before (y .within) xs ys e)
     ∙ ap (λ (l : List Space). z ∷ l) (upward-append left xs ys closed z (closed z (found-stands (y .within) xs e .0)))
-    ∙ sym (upward-some left xs y (enclosing-of-room xs y r ∙ e)))
+    ∙ sym (upward-next left xs y (enclosing-of-room xs y r ∙ e)))
     (λ r.
-    upward-none left (xs ++ ys) y (enclosing-of-other (xs ++ ys) y r) ∙ sym (upward-none left xs y (enclosing-of-other xs y r)))
+    upward-none (suc left) (xs ++ ys) y (enclosing-of-other (xs ++ ys) y r) ∙ sym (upward-none (suc left) xs y (enclosing-of-other xs y r)))
 
 -- a walk that ended with levels left is the same with one level more
 upward-ended : (left : ℕ) (xs : List Space) (x : Space) → length (upward left xs x) < left → upward (suc left) xs x ≡ upward left xs x
 upward-ended zero xs x h = absurd (omega arith)
 upward-ended (suc left) xs x h =
     by-option (enclosing xs x)
-    (λ e. upward-none (suc left) xs x e ∙ sym (upward-none left xs x e))
+    (λ e. upward-none (suc (suc left)) xs x e ∙ sym (upward-none (suc left) xs x e))
     (λ z e.
-    let l : length (z ∷ upward left xs z) < suc left = rw (upward-some left xs x e) at h in
-    upward-some (suc left) xs x e
+    let l : length (z ∷ upward left xs z) < suc left = rw (upward-next left xs x e) at h in
+    upward-next (suc left) xs x e
     ∙ ap (λ (l : List Space). z ∷ l) (upward-ended left xs z (omega arith))
-    ∙ sym (upward-some left xs x e))
+    ∙ sym (upward-next left xs x e))
 
 -- ---- anywhere above
 
@@ -88,19 +83,19 @@ above-of-walked : (left : ℕ) (xs : List Space) (y z : Space) → z ∈ upward 
 above-of-walked zero xs y z m = absurd (List·Memᴰ·not-nil m)
 above-of-walked (suc left) xs y z m =
     by-option (enclosing xs y)
-    (λ e. absurd (List·Memᴰ·not-nil (subst (λ (l : List Space). z ∈ l) (upward-none left xs y e) m)))
+    (λ e. absurd (List·Memᴰ·not-nil (subst (λ (l : List Space). z ∈ l) (upward-none (suc left) xs y e) m)))
     (λ t e.
     ⊎-elim (λ (q : z ≡ t). subst (Above xs y) (sym q) (directly e)) (λ (a : z ∈ upward left xs t). further e (above-of-walked left xs t z a))
-    (List·Memᴰ·cases-cons (subst (λ (l : List Space). z ∈ l) (upward-some left xs y e) m)))
+    (List·Memᴰ·cases-cons (subst (λ (l : List Space). z ∈ l) (upward-next left xs y e) m)))
 
 -- a walk that ended with levels left has met all that are above
 walked-of-above : (left : ℕ) (xs : List Space) {y z : Space} → length (upward left xs y) < left → Above xs y z → z ∈ upward left xs y
 walked-of-above zero xs h a = absurd (omega arith)
 walked-of-above (suc left) xs {y} {z} h (directly e) =
-    subst (λ (l : List Space). z ∈ l) (sym (upward-some left xs y e)) (List·Memᴰ·head refl)
+    subst (λ (l : List Space). z ∈ l) (sym (upward-next left xs y e)) (List·Memᴰ·head refl)
 walked-of-above (suc left) xs {y} {z} h (further {t = t} e a) =
-    let l : length (t ∷ upward left xs t) < suc left = rw (upward-some left xs y e) at h in
-    subst (λ (l : List Space). z ∈ l) (sym (upward-some left xs y e)) (List·Memᴰ·tail (walked-of-above left xs (omega arith) a))
+    let l : length (t ∷ upward left xs t) < suc left = rw (upward-next left xs y e) at h in
+    subst (λ (l : List Space). z ∈ l) (sym (upward-next left xs y e)) (List·Memᴰ·tail (walked-of-above left xs (omega arith) a))
 
 -- ---- within the 8 levels the walk finds all that are above, and nothing speaks of the levels left
 
@@ -111,14 +106,14 @@ above-exactly xs y z h = (above-of-walked 8 xs y z, walked-of-above 8 xs (omega 
 pub above-of-room : (xs : List Space) (y : Space) {z : Space} → level xs y ≤ 8 → enclosing xs y ≡ some z → above xs y ≡ z ∷ above xs z
 unfolding above
 above-of-room xs y {z} h e =
-    let u : above xs y ≡ z ∷ upward 7 xs z = upward-some 7 xs y e in
+    let u : above xs y ≡ z ∷ upward 7 xs z = upward-next 7 xs y e in
     let l : length (z ∷ upward 7 xs z) + 1 ≤ 8 = rw u at h in
     u ∙ ap (λ (l : List Space). z ∷ l) (sym (upward-ended 7 xs z (omega arith)))
 
 -- "A U, B, S or H is at level 1, a room one below its enclosing space"
 pub level-of-other : (xs : List Space) (y : Space) → isRoom y ≡ false → level xs y ≡ 1
 unfolding above
-level-of-other xs y r = rw (upward-none 7 xs y (enclosing-of-other xs y r))
+level-of-other xs y r = rw (upward-none 8 xs y (enclosing-of-other xs y r))
 
 pub level-of-room : (xs : List Space) (y : Space) {z : Space} → level xs y ≤ 8 → enclosing xs y ≡ some z → level xs y ≡ level xs z + 1
 level-of-room xs y {z} h e = omega (arith, ap length (above-of-room xs y {z = z} h e))

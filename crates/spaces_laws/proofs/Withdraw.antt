@@ -18,9 +18,10 @@ use Rattle.spaces.specs.Enclosure.{above, enclosing, upward}
 use Rattle.spaces.specs.Rules.{enclosesRoom, withdrawNumber}
 use Rattle.spaces.specs.Valid.{ValidFrom, done, next, Valid}
 use Rattle.spaces.proofs.laws.Cases.{by-test, by-option}
+use Rattle.spaces.proofs.laws.Enclosure.{upward-next, upward-none}
 use Rattle.spaces_laws.proofs.Refusals.{none-applies, accepted-of-none}
 use Rattle.spaces_laws.proofs.Lists.{_∈_, all-snoc, find-further, some-of, one-within-sum, sum-of-none, inside-adds, outside-adds-none}
-use Rattle.spaces_laws.proofs.Walk.{enclosing-of-other, enclosing-of-room, enclosing-stands, upward-some, upward-none}
+use Rattle.spaces_laws.proofs.Walk.{enclosing-of-other, enclosing-of-room, enclosing-stands}
 use Rattle.spaces_laws.proofs.Entry.{Accepted, facts-of-entry, entry-of-facts}
 use Rattle.spaces_laws.proofs.Changes.{without}
 
@@ -104,11 +105,11 @@ upward-without : (left id : ℕ) (xs : List Space) → ((y : Space) → y ∈ xs
 upward-without zero id xs empty y out = refl
 upward-without (suc left) id xs empty y out =
     by-option (enclosing xs y)
-    (λ e. upward-none left (without id xs) y (enclosing-without id xs y out ∙ e) ∙ sym (upward-none left xs y e))
+    (λ e. upward-none (suc left) (without id xs) y (enclosing-without id xs y out ∙ e) ∙ sym (upward-none (suc left) xs y e))
     (λ z e.
-    upward-some left (without id xs) y (enclosing-without id xs y out ∙ e)
+    upward-next left (without id xs) y (enclosing-without id xs y out ∙ e)
     ∙ ap (λ (l : List Space). z ∷ l) (upward-without left id xs empty z (empty z (enclosing-stands xs y e)))
-    ∙ sym (upward-some left xs y e))
+    ∙ sym (upward-next left xs y e))
 
 -- ---- an entry after the spaces without one
 

@@ -12,15 +12,20 @@ use Rattle.spaces.specs.Enclosure.{enclosing, onward, upward, above, amo
 use Rattle.spaces.specs.Handed.{walked, pastOf}
 use Rattle.spaces.specs.declared.space.Space.{Space}
 
+-- one level of the walk
+pub upward-next : (left : ℕ) (xs : List Space) (x : Space) {z : Space} → enclosing xs x ≡ some z → upward (suc left) xs x ≡ z ∷ upward left xs z
+upward-next left xs x e = rw e
+
+-- the same with the levels left as the code counts them
 pub upward-some : (left : ℕ) (xs : List Space) (x : Space) {z : Space} → 0 < left → enclosing xs x ≡ some z → upward left xs x ≡ z ∷ upward (left - 1) xs z
 upward-some zero xs x h e = absurd (omega arith)
 upward-some (suc left) xs x {z} h e =
     let l : suc left - 1 ≡ left = omega arith in
-    ap (λ (o : Option Space). onward o (λ y. upward left xs y)) e ∙ ap (λ (k : ℕ). z ∷ upward k xs z) (sym l)
+    upward-next left xs x e ∙ ap (λ (k : ℕ). z ∷ upward k xs z) (sym l)
 
 pub upward-none : (left : ℕ) (xs : List Space) (x : Space) → enclosing xs x ≡ none → upward left xs x ≡ []
 upward-none zero xs x e = refl
-upward-none (suc left) xs x e = ap (λ (o : Option Space). onward o (λ y. upward left xs y)) e
+upward-none (suc left) xs x e = rw e
 
 onward-short : (o : Option Space) (further : Space → List Space) (left : ℕ) → ((z : Space) → length (further z) ≤ left) → length (onward o further) ≤ suc left
 onward-short none further left h = omega arith
