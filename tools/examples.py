@@ -1,6 +1,7 @@
 #!/usr/bin/env python3
 """Builds and runs the examples in C and Rust by the README's own lines, and fails where one prints something else than the second
-program's answers and listing, examples/answers.txt.
+program's answers and listing, examples/answers.txt; and fails where the README's few lines of C or Rust answer another number than
+it says of them.
 
 Run at the root of the project: python3 tools/examples.py [-v]   (-v prints what each line prints)
 """
@@ -10,12 +11,42 @@ import sys
 from pathlib import Path
 
 ANSWERS = Path('examples/answers.txt')
+CODE = re.compile(r'```\w+\n(.*?)```', re.S)
+
+# Each section of the README: a program around its few lines, LINES, which ends with status 0 where HELD, and how it is built and run.
+SECTIONS = {
+    'Call it from C': (
+        'calls.c',
+        '#include "fummidrake.h"\nint main(void) {\nLINES    return HELD ? 0 : 1;\n}\n',
+        'gcc -Iinclude target/calls.c target/staticlib/libfummidrake.a -o target/calls && target/calls',
+    ),
+    'Call it from Rust': (
+        'calls.rs',
+        '#[path = "../examples/rust/fummidrake.rs"]\n#[allow(dead_code)]\nmod fummidrake;\nuse fummidrake::*;\n'
+        'fn main() {\nLINES    assert!(HELD);\n}\n',
+        'rustc --edition 2021 -L target/staticlib -l static=fummidrake target/calls.rs -o target/calls && target/calls',
+    ),
+}
+
+
+def text_of(section: str) -> str:
+    return Path('README.md').read_text().split(f'## {section}\n')[1].split('\n## ')[0]
 
 
 def lines_of(section: str) -> list[str]:
-    """The command lines of a section of the README: those that are indented, outside of code."""
-    text = Path('README.md').read_text().split(f'## {section}\n')[1].split('\n## ')[0]
-    return re.findall(r'(?m)^    (.*)$', re.sub(r'```.*?```', '', text, flags=re.S))
+    """The command lines of a section: those that are indented, outside of code."""
+    return re.findall(r'(?m)^    (.*)$', CODE.sub('', text_of(section)))
+
+
+def try_code(section: str) -> None:
+    """Runs a section's few lines: each `x.number is N` that they say must hold."""
+    name, program, build = SECTIONS[section]
+    code = CODE.search(text_of(section))[1]
+    said = re.findall(r'(\w+\.number) is (\d+)', code)
+    assert said, f'{section}: nothing is said of a number'
+    held = ' && '.join(f'{number} == {n}' for number, n in said)
+    Path('target', name).write_text(program.replace('LINES', code).replace('HELD', held))
+    printed(build)
 
 
 def printed(line: str) -> str:
@@ -26,7 +57,7 @@ def printed(line: str) -> str:
 
 
 def main() -> int:
-    for section in ('Call it from C', 'Call it from Rust'):
+    for section in SECTIONS:
         for line in lines_of(section):
             found = printed(line)
             if '-v' in sys.argv:
@@ -35,6 +66,7 @@ def main() -> int:
         if found != ANSWERS.read_text():
             print(f'{section}: the example prints something else than {ANSWERS}:\n{found}')
             return 1
+        try_code(section)
     return 0
 
 
