@@ -5,3 +5,4 @@ pub mod Row
 pub mod Found
 pub mod Enclosure
 pub mod Places
+pub mod Index

@@ -2,7 +2,7 @@
 use Prim.Native.Nat.{ℕ, zero, suc, _+_, _<_}
 use mathlib.Core.Path.{_≡_}
 use mathlib.Core.Bool.{Bool, false, cond, _&&_, _||_}
-use mathlib.Core.List.{List}
+use mathlib.Core.List.{List, [], _∷_}
 use lib.Dec.{eqb, ltb}
 use lib.ListN.{length, getD}
 use Rattle.spaces.specs.Space.{emptySpace, isRoom, isPlain}
@@ -33,3 +33,20 @@ leadsTo zero n places from to = false
 leadsTo (suc left) n places from to =
     let next = getD places from 0 in
     ltb next n && (eqb next to || leadsTo left n places next to)
+
+-- one number of each space, in their order; and such rows
+abbrev pub column : (Space → ℕ) → List Space → List ℕ
+column f [] = []
+column f (x ∷ xs) = f x ∷ column f xs
+
+abbrev pub idsOf : List Space → List ℕ
+idsOf xs = column (λ (x : Space). x .id) xs
+
+-- the place of an id among ids, from 0; as many as there are where none is it
+abbrev pub placeIn : ℕ → List ℕ → ℕ
+placeIn id [] = 0
+placeIn id (x ∷ xs) = cond (eqb x id) 0 (suc (placeIn id xs))
+
+-- an index of ids: at each id that it reaches the place of that id
+abbrev pub Indexed : List ℕ → List ℕ → Type 0
+Indexed ids index = (id : ℕ) → id < length index → getD index id 0 ≡ placeIn id ids

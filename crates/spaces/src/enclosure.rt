@@ -1,5 +1,8 @@
 // The chain upward ("Enclosure"): walked one enclosing space at a time, for levels and for the standings above; and
 // followed by places, for the standings below.
+use crate::index::ids_of;
+use crate::index::index_ids;
+use crate::index::place_by;
 use crate::row::Found;
 use crate::row::find;
 use crate::row::place_of;
@@ -7,13 +10,13 @@ use crate::row::used;
 use crate::space::ROOM;
 use crate::space::Space;
 ghost use mathlib.Core.Path.{_≡_};
-ghost use mathlib.Core.Bool.{not, _&&_};
+ghost use mathlib.Core.Bool.{cond, not, _&&_};
 ghost use Prim.Native.Nat.{_≤_, _<_};
-ghost use lib.ListN.{take};
-ghost use Rattle.spaces.specs.Space.{isPlain};
+ghost use lib.ListN.{length, take};
+ghost use Rattle.spaces.specs.Space.{isRoom, isPlain};
 ghost use Rattle.spaces.specs.Row.{foundAs};
 ghost use Rattle.spaces.specs.Enclosure.{enclosing as enclosingIn, upward, allPlain, below};
-ghost use Rattle.spaces.specs.Handed.{walked, pastOf, enclosingPlace, EnclosingPlaces, leadsTo};
+ghost use Rattle.spaces.specs.Handed.{walked, pastOf, EnclosingPlaces, leadsTo, placeIn, Indexed};
 
 // What a walk upward met: how many spaces, and whether all are plain.
 pub struct Above {
@@ -98,24 +101,28 @@ fn enclosing_places(spaces: [Space; 200], count: usize) -> [usize; 200]
     ensures { λ r. ⌜ EnclosingPlaces (take count spaces) r ⌝ }
 {
     let n = used(count);
+    let ids = ids_of(spaces);
+    let mut index = [n as u8; 10000];
+    index_ids(&ids, n, &mut index);
     let mut places = [0usize; 200];
     let mut i = 0;
     while i < n {
         let x = spaces[i];
-        places[i] = enclosing_place(spaces, count, x);
+        places[i] = enclosing_place(x, &index, &ids, n);
         i += 1;
     }
     places
 }
 
-// The place of the enclosing space, from 0; as many as stand where there is none.
-fn enclosing_place(spaces: [Space; 200], count: usize, x: Space) -> usize
-    ensures { λ r. ⌜ r ≡ enclosingPlace (take count spaces) x ⌝ }
+// The place of the enclosing space, from 0; n, as many as stand, where there is none.
+fn enclosing_place(x: Space, index: &[u8], ids: &[u16], n: usize) -> usize
+    requires { ⌜ (n ≤ length (now ids)) × Indexed (take n (now ids)) (now index) ⌝ }
+    ensures { λ r. ⌜ r ≡ cond (isRoom x) (placeIn (x .within) (take n (now (ids .entry)))) n ⌝ }
 {
     if x.kind == ROOM {
-        return place_of(spaces, count, x.within);
+        return place_by(index, ids, n, x.within);
     }
-    used(count)
+    n
 }
 
 // Whether a space isn't plain and the one at the place `to` is above it, which stands at `from`.

@@ -5,6 +5,7 @@
 // looked at, and a count over 200 is all of them. No public function asks anything of its caller.
 pub mod enclosure;
 pub mod gross;
+mod index;
 pub mod row;
 pub mod rules;
 pub mod space;

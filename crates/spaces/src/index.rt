@@ -1,0 +1,65 @@
+// The places of ids, found by an index instead of a search: for each id the place at which it stands. Numbers may be lent, so
+// nothing is copied; the ids stand in a row of their own.
+use crate::space::Space;
+ghost use mathlib.Core.Path.{_≡_};
+ghost use mathlib.Core.List.{List};
+ghost use Prim.Native.Nat.{_≤_};
+ghost use lib.ListN.{length, take, replicate};
+ghost use Rattle.spaces.specs.Handed.{idsOf, placeIn, Indexed};
+
+// The ids of the spaces, in their order.
+pub(crate) fn ids_of(spaces: [Space; 200]) -> [u16; 200]
+    ensures { λ r. ⌜ r ≡ idsOf spaces ⌝ }
+{
+    let mut ids = [0u16; 200];
+    let mut i = 0;
+    while i < 200 {
+        let x = spaces[i];
+        ids[i] = x.id;
+        i += 1;
+    }
+    ids
+}
+
+// Lays the place of each of the first n ids into an index that has n everywhere; from the last to the first, so that the first
+// place of an id stays.
+pub(crate) fn index_ids(ids: &[u16], n: usize, index: &mut [u8])
+    requires { ⌜ (n ≤ 200) × (n ≤ length (now ids)) × (now index ≡ replicate (length (now index)) n) ⌝ }
+    ensures { λ _. ⌜ Indexed (take n (now (ids .entry))) (now (index .exit)) ⌝ }
+{
+    let mut left = n;
+    while 0 < left {
+        left -= 1;
+        let id = ids[left] as usize;
+        if id < index.len() {
+            index[id] = left as u8;
+        }
+    }
+}
+
+// The place of an id, from 0; n where none of the first n is it. An id that the index doesn't reach is searched for: no sheet that
+// calls can reach holds one.
+pub(crate) fn place_by(index: &[u8], ids: &[u16], n: usize, id: u16) -> usize
+    requires { ⌜ (n ≤ length (now ids)) × Indexed (take n (now ids)) (now index) ⌝ }
+    ensures { λ r. ⌜ r ≡ placeIn id (take n (now (ids .entry))) ⌝ }
+{
+    let at = id as usize;
+    if at < index.len() {
+        return index[at] as usize;
+    }
+    place_in(ids, n, id)
+}
+
+fn place_in(ids: &[u16], n: usize, id: u16) -> usize
+    requires { ⌜ n ≤ length (now ids) ⌝ }
+    ensures { λ r. ⌜ r ≡ placeIn id (take n (now (ids .entry))) ⌝ }
+{
+    let mut i = 0;
+    while i < n {
+        if ids[i] == id {
+            return i;
+        }
+        i += 1;
+    }
+    n
+}
