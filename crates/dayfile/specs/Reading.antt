@@ -10,7 +10,7 @@ use Rattle.spaces.specs.declared.space.Space.{Space}
 use Rattle.sheet.specs.Sheet.{standing, blank}
 use Rattle.sheet.specs.Changes.{withStanding}
 use Rattle.sheet.specs.Calls.{reported}
-use Rattle.sheet.specs.Resume.{recordNumber}
+use Rattle.spaces.specs.Records.{recordNumber}
 use Rattle.sheet.specs.declared.sheet.Sheet.{Sheet}
 use Rattle.dayfile.specs.Fields.{fitting}
 use Rattle.dayfile.specs.Record.{recordFields, recordsIn, spaceOf, spacesOf}

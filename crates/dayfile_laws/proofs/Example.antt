@@ -11,7 +11,7 @@ use Rattle.spaces.specs.Enclosure.{above}
 use Rattle.spaces.specs.Gross.{grossOver, gross, net, unjustified}
 use Rattle.sheet.specs.Sheet.{standing, usable, blank}
 use Rattle.sheet.specs.Calls.{reported}
-use Rattle.sheet.specs.Resume.{recordNumber}
+use Rattle.spaces.specs.Records.{recordNumber}
 use Rattle.sheet.specs.declared.sheet.Sheet.{Sheet}
 use Rattle.sheet.specs.declared.calls.Reported.{Reported}
 use Rattle.sheet_laws.proofs.Resumable.{resumable-exactly}

@@ -24,7 +24,7 @@ use Rattle.spaces_laws.proofs.Tests.{and-fails}
 use Rattle.spaces_laws.proofs.Lists.{_∈_, found-stands}
 use Rattle.spaces_laws.proofs.Valid.{Sound, valid-is-sound}
 use Rattle.spaces_laws.proofs.Report.{net-at-most-gross, gross-bounded}
-use Rattle.sheet.specs.Resume.{misrecorded}
+use Rattle.spaces.specs.Records.{misrecorded}
 use Rattle.sheet_laws.proofs.Resumable.{Resumable}
 use Rattle.dayfile.specs.Record.{recordFields, numbersOf}
 use Rattle.dayfile_laws.proofs.Fields.{InFields, fitting-of}

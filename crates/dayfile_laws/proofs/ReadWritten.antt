@@ -9,7 +9,7 @@ use Rattle.measure.proofs.laws.Volumes.{at-most-drop}
 use Rattle.spaces.specs.Gross.{gross, net}
 use Rattle.spaces.specs.declared.space.Space.{Space}
 use Rattle.sheet.specs.Sheet.{standing}
-use Rattle.sheet.specs.Resume.{firstRefused}
+use Rattle.spaces.specs.Records.{firstRefused}
 use Rattle.sheet.specs.declared.sheet.Sheet.{Sheet}
 use Rattle.sheet_laws.proofs.Resumable.{resumable-exactly, OfRecords}
 use Rattle.dayfile.specs.Numbers.{Bytes}

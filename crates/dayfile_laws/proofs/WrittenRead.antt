@@ -14,7 +14,7 @@ use Rattle.spaces_laws.proofs.Tests.{and-holds-of}
 use Rattle.spaces_laws.proofs.Lists.{_∈_}
 use Rattle.sheet.specs.Sheet.{standing, usable}
 use Rattle.sheet.specs.Calls.{counted, reported}
-use Rattle.sheet.specs.Resume.{firstRefused}
+use Rattle.spaces.specs.Records.{firstRefused}
 use Rattle.sheet.specs.declared.sheet.Sheet.{Sheet}
 use Rattle.sheet.proofs.laws.Sheet.{usable-counts}
 use Rattle.sheet.proofs.laws.Report.{Given, given}

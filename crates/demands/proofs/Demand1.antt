@@ -23,7 +23,8 @@ use Rattle.spaces.specs.declared.sums.Amount.the-variants.{Lengths}
 use Rattle.spaces.proofs.laws.Cases.{by-test}
 use Rattle.sheet.specs.Sheet.{standing, usable, blank}
 use Rattle.sheet.specs.Calls.{openedWith, entered, withdrawn, marked, undone, redone, counted, reported}
-use Rattle.sheet.specs.Resume.{misrecorded, recordNumber, firstRefused, resumed}
+use Rattle.spaces.specs.Records.{misrecorded, recordNumber, firstRefused}
+use Rattle.sheet.specs.Resume.{resumed}
 use Rattle.sheet.specs.declared.sheet.Sheet.{Sheet}
 use Rattle.sheet.specs.declared.calls.Entry.{Entry}
 use Rattle.sheet_laws.specs.Run.{spaceOf}

@@ -5,7 +5,7 @@
 use Prim.Native.Nat.{ℕ}
 use mathlib.Core.Path.{_≡_, sym, _∙_}
 use mathlib.Core.Bool.{Bool, false}
-use mathlib.Core.List.{List}
+use mathlib.Core.List.{List, []}
 use lib.ListN.{length, take, drop}
 use Rattle.measure.specs.Kinds.{kindOf}
 use Rattle.measure.specs.Thirds.{divided as dividedOf}
@@ -19,10 +19,12 @@ use Rattle.measure.specs.declared.offsets.Measured.{Measured}
 use Rattle.spaces.specs.Space.{emptySpace, mayTake}
 use Rattle.spaces.specs.Row.{used as usedOf, find as findIn, foundAs, spaceWith, placeOf, stands as standsIn}
 use Rattle.spaces.specs.Rules.{entryNumber, withdrawNumber, markNumber}
+use Rattle.spaces.specs.Records.{firstRefused}
 use Rattle.spaces.specs.Gross.{reckoned}
 use Rattle.spaces.specs.declared.space.Space.{Space}
 use Rattle.spaces.specs.declared.row.Found.{Found}
 use Rattle.spaces.specs.declared.gross.Reckoning.{Reckoning}
+use Rattle.spaces.specs.declared.records.RefusedRecord.{RefusedRecord}
 use Rattle.sheet.specs.Sheet.{usable, blank, lengthOf, standingCount, spaceAt, placesOf}
 use Rattle.sheet.specs.Calls.{openedWith, entered, withdrawn, marked, undone, redone, counted, reported}
 use Rattle.sheet.specs.Resume.{resumed}
@@ -64,6 +66,7 @@ pub data Public : Type 0 → Type 0 → Type 1 where
   entry-number : Public (List Space × ℕ × ℕ × Space) ℕ
   withdraw-number : Public (List Space × ℕ × ℕ) ℕ
   mark-number : Public (List Space × ℕ × ℕ × ℕ) ℕ
+  first-refused : Public (List Space × ℕ × ℕ) RefusedRecord
   reckon : Public (List Space × ℕ) Reckoning
   -- sheet
   «open» : Public ℕ Changed
@@ -111,6 +114,7 @@ promised space-with (spaces, count, id) = spaceWith (findIn id (take count space
 promised entry-number (spaces, count, L, x) = entryNumber L (take count spaces) x
 promised withdraw-number (spaces, count, id) = withdrawNumber (take count spaces) id
 promised mark-number (spaces, count, id, standing) = markNumber (take count spaces) id standing
+promised first-refused (spaces, count, tonnage-length) = firstRefused tonnage-length [] (take count spaces)
 promised reckon (spaces, count) = reckoned (take count spaces)
 promised «open» length = openedWith length
 promised closed none = blank false 0

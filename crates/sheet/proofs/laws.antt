@@ -2,6 +2,5 @@
 pub mod Row
 pub mod Changes
 pub mod Sheet
-pub mod Resume
 pub mod Calls
 pub mod Report

@@ -1,40 +1,15 @@
 -- A sheet of recorded spaces: "It checks records in file order as entries with the recorded tonnage and length" ("The file"), and
 -- "The sheet read is open, with no open changes."
-use Prim.Native.Nat.{ℕ, _+_}
-use mathlib.Core.Bool.{Bool, true, false, cond, not, _&&_, _||_}
-use mathlib.Core.List.{List, [], _∷_, _++_}
-use lib.Dec.{eqb, ltb}
-use lib.ListN.{length}
-use Rattle.measure.specs.Kinds.{kindOf}
-use Rattle.measure.specs.Ranges.{within, lengths, tonnageLengths}
-use Rattle.measure.specs.Refusals.{firstOf}
-use Rattle.spaces.specs.Space.{isRoom}
-use Rattle.spaces.specs.Rules.{entryTests}
+use Prim.Native.Nat.{ℕ}
+use mathlib.Core.Bool.{true, false, cond}
+use mathlib.Core.List.{List, []}
+use lib.Dec.{eqb}
+use Rattle.measure.specs.Ranges.{within, tonnageLengths}
+use Rattle.spaces.specs.Records.{firstRefused}
 use Rattle.spaces.specs.declared.space.Space.{Space}
 use Rattle.sheet.specs.Sheet.{blank}
 use Rattle.sheet.specs.Changes.{withStanding}
 use Rattle.sheet.specs.declared.resume.Resumed.{Resumed}
-use Rattle.sheet.specs.declared.resume.RefusedRecord.{RefusedRecord}
-
--- a record that no entry could have made: a tonnage over 100,000,000, a length outside its range, or an enclosing id where there
--- may be none. (Its id, kind and standing are judged with the entry.)
-abbrev pub misrecorded : Space → Bool
-misrecorded x =
-    ltb 100000000 (x .tonnage)
-    || not (within (lengths (kindOf (x .kind))) (x .length))
-    || (not (isRoom x) && not (eqb (x .within) 0))
-
--- the number with which a record is refused after the spaces xs, where L is the tonnage length
-unfoldable pub recordNumber : ℕ → List Space → Space → ℕ
-recordNumber L xs x = firstOf ((misrecorded x, 2) ∷ entryTests L xs x)
-
--- the first refused of some records after the spaces xs, with its position from 1; 0 and 0 where none is
-abbrev pub firstRefused : ℕ → List Space → List Space → RefusedRecord
-firstRefused L xs [] = record { number = 0; position = 0 }
-firstRefused L xs (x ∷ rest) =
-    cond (eqb (recordNumber L xs x) 0)
-    (firstRefused L (xs ++ (x ∷ [])) rest)
-    (record { number = recordNumber L xs x; position = length xs + 1 })
 
 -- the sheet of these records
 abbrev pub sheetOf : ℕ → List Space → Resumed

@@ -28,7 +28,8 @@ use Rattle.spaces_laws.proofs.Mark.{mark-by-id-keeps-valid}
 use Rattle.sheet.specs.Sheet.{blank}
 use Rattle.sheet.specs.Changes.{withStanding}
 use Rattle.sheet.specs.Calls.{openedWith, entryOf}
-use Rattle.sheet.specs.Resume.{misrecorded, recordNumber, firstRefused, resumed}
+use Rattle.spaces.specs.Records.{misrecorded, recordNumber, firstRefused}
+use Rattle.sheet.specs.Resume.{resumed}
 use Rattle.sheet.specs.declared.sheet.Sheet.{Sheet}
 use Rattle.sheet.specs.declared.calls.Entry.{Entry}
 use Rattle.sheet.proofs.laws.Calls.{passes, passed}

@@ -13,7 +13,7 @@ use Rattle.spaces_laws.proofs.Lists.{_∈_}
 use Rattle.spaces_laws.proofs.Walk.{Above}
 use Rattle.sheet.specs.Sheet.{standing, usable}
 use Rattle.sheet.specs.Calls.{undone, redone, counted, reported}
-use Rattle.sheet.specs.Resume.{firstRefused}
+use Rattle.spaces.specs.Records.{firstRefused}
 use Rattle.sheet.specs.declared.sheet.Sheet.{Sheet}
 use Rattle.sheet.specs.declared.calls.Reported.{Reported}
 use Rattle.sheet_laws.specs.Run.{Call, after, Log, replay, logOf, OpenChanges, countsOf}

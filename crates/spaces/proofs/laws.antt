@@ -6,3 +6,6 @@ pub mod Found
 pub mod Enclosure
 pub mod Places
 pub mod Index
+pub mod Climb
+pub mod Around
+pub mod Records

@@ -1,23 +1,32 @@
--- What the walks inside the crate answer one another. No promise of a public function cites anything here.
+-- What the functions inside the crate answer one another. No promise of a public function cites anything here.
 use Prim.Native.Nat.{ℕ, zero, suc, _+_, _<_}
 use mathlib.Core.Path.{_≡_}
-use mathlib.Core.Bool.{Bool, false, cond, _&&_, _||_}
+use mathlib.Core.Bool.{Bool, true, false, cond, not, _&&_, _||_}
 use mathlib.Core.List.{List, [], _∷_}
+use mathlib.Core.Option.{Option, none, some}
 use lib.Dec.{eqb, ltb}
 use lib.ListN.{length, getD}
-use Rattle.spaces.specs.Space.{emptySpace, isRoom, isPlain}
-use Rattle.spaces.specs.Row.{placeOf}
+use Rattle.measure.specs.Refusals.{firstOf}
+use Rattle.spaces.specs.Space.{emptySpace, isUnderDeck, isRoom, isPlain, mayTake}
+use Rattle.spaces.specs.Row.{placeOf, isSome, sumOf}
 use Rattle.spaces.specs.Enclosure.{allPlain}
+use Rattle.spaces.specs.Rules.{inHatchway}
 use Rattle.spaces.specs.declared.space.Space.{Space}
 use Rattle.spaces.specs.declared.enclosure.Above.{Above}
+use Rattle.spaces.specs.declared.row.Found.{Found}
+use Rattle.spaces.specs.declared.row.Found.the-variants.{At, Nothing}
+use Rattle.spaces.specs.declared.rules.Around.{Around}
+use Rattle.spaces.specs.declared.sums.Amount.the-variants.{Inside, Lengths}
+
+-- ---- walks and places
 
 -- a walk that meets these spaces
 abbrev pub walked : List Space → Above
 walked zs = record { levels = length zs; plain = allPlain zs }
 
--- and one that goes past a space first
-abbrev pub pastOf : Space → Above → Above
-pastOf z w = record { levels = w .levels + 1; plain = isPlain z && w .plain }
+-- and one that goes past a space of a standing first
+abbrev pub pastOf : ℕ → Above → Above
+pastOf standing w = record { levels = w .levels + 1; plain = eqb standing 0 && w .plain }
 
 -- the place of the enclosing space, from 0; as many as there are spaces where there is none
 abbrev pub enclosingPlace : List Space → Space → ℕ
@@ -34,6 +43,13 @@ leadsTo (suc left) n places from to =
     let next = getD places from 0 in
     ltb next n && (eqb next to || leadsTo left n places next to)
 
+-- what a climb from the place `at` meets, in such a row, of the first `most` spaces: at each place its standing
+unfoldable pub climbed : (left most : ℕ) (places standings : List ℕ) (at : ℕ) → Above
+climbed zero most places standings at = walked []
+climbed (suc left) most places standings at =
+    let next = getD places at 0 in
+    cond (ltb next most) (pastOf (getD standings next 0) (climbed left most places standings next)) (walked [])
+
 -- one number of each space, in their order; and such rows
 abbrev pub column : (Space → ℕ) → List Space → List ℕ
 column f [] = []
@@ -41,6 +57,9 @@ column f (x ∷ xs) = f x ∷ column f xs
 
 abbrev pub idsOf : List Space → List ℕ
 idsOf xs = column (λ (x : Space). x .id) xs
+
+abbrev pub standingsOf : List Space → List ℕ
+standingsOf xs = column (λ (x : Space). x .standing) xs
 
 -- the place of an id among ids, from 0; as many as there are where none is it
 abbrev pub placeIn : ℕ → List ℕ → ℕ
@@ -50,3 +69,31 @@ placeIn id (x ∷ xs) = cond (eqb x id) 0 (suc (placeIn id xs))
 -- an index of ids: at each id that it reaches the place of that id
 abbrev pub Indexed : List ℕ → List ℕ → Type 0
 Indexed ids index = (id : ℕ) → id < length index → getD index id 0 ≡ placeIn id ids
+
+-- ---- an entry judged by what is around it
+
+-- a search as the code answers it
+abbrev pub inFound : Found → Option Space
+inFound (At z) = some z
+inFound Nothing = none
+
+-- what 9 adds an entry to
+abbrev pub besideOf : List Space → Space → ℕ
+besideOf xs x = cond (isRoom x) (sumOf (Inside (x .within)) xs) (cond (isUnderDeck x) (sumOf Lengths xs) 0)
+
+abbrev pub overfullBy : ℕ → Space → Option Space → ℕ → Bool
+overfullBy L x none beside = isUnderDeck x && ltb L (beside + x .length)
+overfullBy L x (some z) beside = ltb (z .tonnage) (beside + x .tonnage)
+
+-- the tests of entry in the table's order, by the enclosing space and what else is around
+unfoldable pub judgedNumber : ℕ → Space → Option Space → Around → ℕ
+judgedNumber L x o a =
+    firstOf
+    ((ltb (x .id) 1 || ltb 9999 (x .id) || a .taken, 4)
+    ∷ (isRoom x && not (isSome o), 5)
+    ∷ (not (mayTake (x .kind) (x .standing)) || inHatchway o, 6)
+    ∷ (ltb 8 (a .levels + 1), 7)
+    ∷ (not (isPlain x) && not (a .plain), 8)
+    ∷ (overfullBy L x o (a .beside), 9)
+    ∷ (a .full, 10)
+    ∷ [])

@@ -4,6 +4,7 @@ pub mod Space
 pub mod Row
 pub mod Enclosure
 pub mod Rules
+pub mod Records
 pub mod Gross
 pub mod Valid
 pub mod Handed

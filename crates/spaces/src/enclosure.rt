@@ -5,7 +5,6 @@ use crate::index::index_ids;
 use crate::index::place_by;
 use crate::row::Found;
 use crate::row::find;
-use crate::row::place_of;
 use crate::row::used;
 use crate::space::ROOM;
 use crate::space::Space;
@@ -16,7 +15,7 @@ ghost use lib.ListN.{length, take};
 ghost use Rattle.spaces.specs.Space.{isRoom, isPlain};
 ghost use Rattle.spaces.specs.Row.{foundAs};
 ghost use Rattle.spaces.specs.Enclosure.{enclosing as enclosingIn, upward, allPlain, below};
-ghost use Rattle.spaces.specs.Handed.{walked, pastOf, EnclosingPlaces, leadsTo, placeIn, Indexed};
+ghost use Rattle.spaces.specs.Handed.{walked, pastOf, climbed, EnclosingPlaces, leadsTo, idsOf, placeIn, Indexed};
 
 // What a walk upward met: how many spaces, and whether all are plain.
 pub struct Above {
@@ -51,7 +50,7 @@ pub(crate) fn walk(spaces: [Space; 200], count: usize, x: Space, left: usize) ->
     match found {
         Found::At(z) => {
             let further = walk(spaces, count, z, left - 1);
-            past(z, further)
+            past(z.standing, further)
         }
         Found::Nothing => Above {
             levels: 0,
@@ -60,14 +59,14 @@ pub(crate) fn walk(spaces: [Space; 200], count: usize, x: Space, left: usize) ->
     }
 }
 
-// A walk that goes past a space first.
-fn past(z: Space, further: Above) -> Above
+// A walk that goes past a space of a standing first.
+fn past(standing: u8, further: Above) -> Above
     requires { ⌜ further .levels ≤ 8 ⌝ }
-    ensures { λ r. ⌜ r ≡ pastOf z further ⌝ }
+    ensures { λ r. ⌜ r ≡ pastOf standing further ⌝ }
 {
     Above {
         levels: further.levels + 1,
-        plain: both(z.standing == 0, further.plain),
+        plain: both(standing == 0, further.plain),
     }
 }
 
@@ -77,14 +76,45 @@ fn both(a: bool, b: bool) -> bool
     if a { b } else { false }
 }
 
+// The same by places: from the place `at` upward, over the first `most` spaces, with `left` levels left.
+pub(crate) fn climb(
+    places: &[usize; 200],
+    standings: &[u8; 200],
+    most: usize,
+    at: usize,
+    left: usize,
+) -> Above
+    requires { ⌜ (left ≤ 8) × (at < 200) × (most ≤ 200) ⌝ }
+    ensures { λ r. ⌜ r ≡ climbed left most (now (places .entry)) (now (standings .entry)) at ⌝ }
+{
+    if left == 0 {
+        return Above {
+            levels: 0,
+            plain: true,
+        };
+    }
+    let next = places[at];
+    if most <= next {
+        return Above {
+            levels: 0,
+            plain: true,
+        };
+    }
+    let further = climb(places, standings, most, next, left - 1);
+    past(standings[next], further)
+}
+
 // Whether all the spaces that the one with an id is above are plain. The chains are followed in a row of places, which is
 // lent: the walk hands all the spaces on by value at each level, too dear for 200 of them.
 pub(crate) fn plain_below(spaces: [Space; 200], count: usize, id: u16) -> bool
     ensures { λ r. ⌜ r ≡ allPlain (below id (take count spaces)) ⌝ }
 {
-    let places = enclosing_places(spaces, count);
-    let to = place_of(spaces, count, id);
     let n = used(count);
+    let ids = ids_of(spaces);
+    let mut index = [n as u8; 10000];
+    index_ids(&ids, n, &mut index);
+    let places = enclosing_places(spaces, n, &index, &ids);
+    let to = place_by(&index, &ids, n, id);
     let mut i = 0;
     while i < n {
         let y = spaces[i];
@@ -96,19 +126,21 @@ pub(crate) fn plain_below(spaces: [Space; 200], count: usize, id: u16) -> bool
     true
 }
 
-// The place of the enclosing space of each that stands.
-fn enclosing_places(spaces: [Space; 200], count: usize) -> [usize; 200]
-    ensures { λ r. ⌜ EnclosingPlaces (take count spaces) r ⌝ }
+// The place of the enclosing space of each of the first n.
+pub(crate) fn enclosing_places(
+    spaces: [Space; 200],
+    n: usize,
+    index: &[u8],
+    ids: &[u16],
+) -> [usize; 200]
+    requires { ⌜ (n ≤ 200) × (now ids ≡ idsOf spaces) × Indexed (take n (now ids)) (now index) ⌝ }
+    ensures { λ r. ⌜ EnclosingPlaces (take n spaces) r ⌝ }
 {
-    let n = used(count);
-    let ids = ids_of(spaces);
-    let mut index = [n as u8; 10000];
-    index_ids(&ids, n, &mut index);
     let mut places = [0usize; 200];
     let mut i = 0;
     while i < n {
         let x = spaces[i];
-        places[i] = enclosing_place(x, &index, &ids, n);
+        places[i] = enclosing_place(x, index, ids, n);
         i += 1;
     }
     places

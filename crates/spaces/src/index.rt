@@ -5,7 +5,7 @@ ghost use mathlib.Core.Path.{_≡_};
 ghost use mathlib.Core.List.{List};
 ghost use Prim.Native.Nat.{_≤_};
 ghost use lib.ListN.{length, take, replicate};
-ghost use Rattle.spaces.specs.Handed.{idsOf, placeIn, Indexed};
+ghost use Rattle.spaces.specs.Handed.{idsOf, standingsOf, placeIn, Indexed};
 
 // The ids of the spaces, in their order.
 pub(crate) fn ids_of(spaces: [Space; 200]) -> [u16; 200]
@@ -19,6 +19,20 @@ pub(crate) fn ids_of(spaces: [Space; 200]) -> [u16; 200]
         i += 1;
     }
     ids
+}
+
+// The standings of the spaces, in their order.
+pub(crate) fn standings_of(spaces: [Space; 200]) -> [u8; 200]
+    ensures { λ r. ⌜ r ≡ standingsOf spaces ⌝ }
+{
+    let mut standings = [0u8; 200];
+    let mut i = 0;
+    while i < 200 {
+        let x = spaces[i];
+        standings[i] = x.standing;
+        i += 1;
+    }
+    standings
 }
 
 // Lays the place of each of the first n ids into an index that has n everywhere; from the last to the first, so that the first

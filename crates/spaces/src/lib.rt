@@ -6,6 +6,7 @@
 pub mod enclosure;
 pub mod gross;
 mod index;
+pub mod records;
 pub mod row;
 pub mod rules;
 pub mod space;

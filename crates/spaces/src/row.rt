@@ -2,6 +2,7 @@
 use crate::space::Space;
 use crate::space::empty;
 ghost use mathlib.Core.Path.{_≡_};
+ghost use Prim.Native.Nat.{min};
 ghost use lib.ListN.{take};
 ghost use Rattle.spaces.specs.Row.{find as findIn, placeOf, stands as standsIn, spaceWith, foundAs, used as usedOf};
 
@@ -71,4 +72,14 @@ pub fn space_with(spaces: [Space; 200], count: usize, id: u16) -> Space
         Found::At(x) => x,
         Found::Nothing => empty(),
     }
+}
+
+// The lesser of two places.
+pub(crate) fn least(a: usize, b: usize) -> usize
+    ensures { λ r. ⌜ r ≡ min a b ⌝ }
+{
+    if a < b {
+        return a;
+    }
+    b
 }

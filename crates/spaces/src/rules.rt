@@ -16,21 +16,37 @@ use crate::space::may_take;
 use crate::sums::Amount;
 use crate::sums::sum;
 ghost use mathlib.Core.Path.{_≡_};
-ghost use mathlib.Core.Bool.{not, _&&_};
-ghost use lib.Dec.{eqb};
+ghost use mathlib.Core.Bool.{not, _&&_, _||_};
+ghost use Prim.Native.Nat.{_*_, _^_, _≤_};
+ghost use lib.Dec.{eqb, ltb};
 ghost use lib.ListN.{take};
-ghost use Rattle.spaces.specs.Space.{isPlain};
-ghost use Rattle.spaces.specs.Enclosure.{enclosing as enclosingIn, above, allPlain, below};
-ghost use Rattle.spaces.specs.Rules.{idRefused, unhoused as unhousedIn, misplaced as misplacedIn, passesEnclosing, overfull as overfullIn, entryNumber, enclosesRoom, withdrawNumber, markNumber};
+ghost use Rattle.spaces.specs.Space.{isRoom, isPlain, mayTake};
+ghost use Rattle.spaces.specs.Row.{isSome};
+ghost use Rattle.spaces.specs.Enclosure.{above, allPlain, below};
+ghost use Rattle.spaces.specs.Rules.{inHatchway, entryNumber, enclosesRoom, withdrawNumber, markNumber};
+ghost use Rattle.spaces.specs.Handed.{inFound, besideOf, overfullBy, judgedNumber};
 
 // Ids go from 1 to 9,999.
 const GREATEST_ID: u16 = 9_999;
 // Spaces that a sheet has room for.
 const PLACES: usize = 200;
 
+// What an entry's tests ask of the spaces around it.
+pub(crate) struct Around {
+    // Its id stands already.
+    pub taken: bool,
+    // How many spaces are above it, and whether all are plain.
+    pub levels: usize,
+    pub plain: bool,
+    // What 9 adds it to: the rooms inside a room's enclosing space, or the lengths of all U.
+    pub beside: u64,
+    // 200 spaces stand.
+    pub full: bool,
+}
+
 // 4: new id outside its range or already standing.
-fn id_refused(spaces: [Space; 200], count: usize, x: Space) -> bool
-    ensures { λ r. ⌜ r ≡ idRefused (take count spaces) x ⌝ }
+fn id_refused(x: Space, taken: bool) -> bool
+    ensures { λ r. ⌜ r ≡ (ltb (x .id) 1 || ltb 9999 (x .id) || taken) ⌝ }
 {
     if x.id < 1 {
         return true;
@@ -38,27 +54,26 @@ fn id_refused(spaces: [Space; 200], count: usize, x: Space) -> bool
     if GREATEST_ID < x.id {
         return true;
     }
-    stands(spaces, count, x.id)
+    taken
 }
 
 // 5: a room's enclosing id isn't standing.
-fn unhoused(spaces: [Space; 200], count: usize, x: Space) -> bool
-    ensures { λ r. ⌜ r ≡ unhousedIn (take count spaces) x ⌝ }
+fn unhoused(x: Space, found: Found) -> bool
+    ensures { λ r. ⌜ r ≡ (isRoom x && not (isSome (inFound found))) ⌝ }
 {
-    if x.kind == ROOM {
-        return !stands(spaces, count, x.within);
+    match found {
+        Found::At(_) => false,
+        Found::Nothing => x.kind == ROOM,
     }
-    false
 }
 
 // 6: kind can't take this standing, or the enclosing space is a hatchway.
-fn misplaced(spaces: [Space; 200], count: usize, x: Space) -> bool
-    ensures { λ r. ⌜ r ≡ misplacedIn (take count spaces) x ⌝ }
+fn misplaced(x: Space, found: Found) -> bool
+    ensures { λ r. ⌜ r ≡ (not (mayTake (x .kind) (x .standing)) || inHatchway (inFound found)) ⌝ }
 {
     if !may_take(x.kind, x.standing) {
         return true;
     }
-    let found = enclosing(spaces, count, x);
     match found {
         Found::At(z) => z.kind == HATCHWAY,
         Found::Nothing => false,
@@ -76,56 +91,77 @@ fn off_twice(x: Space, plain_above: bool) -> bool
 }
 
 // 9: rooms would pass the enclosing tonnage, or U lengths the tonnage length.
-fn overfull(spaces: [Space; 200], count: usize, tonnage_length: u32, x: Space) -> bool
-    ensures { λ r. ⌜ r ≡ overfullIn «tonnage_length» (take count spaces) x ⌝ }
+fn overfull(x: Space, tonnage_length: u32, found: Found, beside: u64) -> bool
+    requires { ⌜ beside ≤ 200 * 2 ^ 32 ⌝ }
+    ensures { λ r. ⌜ r ≡ overfullBy «tonnage_length» x (inFound found) beside ⌝ }
 {
-    if passes_enclosing(spaces, count, x) {
-        return true;
+    match found {
+        Found::At(z) => (z.tonnage as u64) < beside + x.tonnage as u64,
+        Found::Nothing => {
+            if x.kind == UNDER_DECK {
+                return (tonnage_length as u64) < beside + x.length as u64;
+            }
+            false
+        }
     }
-    if x.kind == UNDER_DECK {
-        return (tonnage_length as u64) < sum(spaces, count, Amount::Lengths) + x.length as u64;
-    }
-    false
 }
 
-fn passes_enclosing(spaces: [Space; 200], count: usize, x: Space) -> bool
-    ensures { λ r. ⌜ r ≡ passesEnclosing (take count spaces) x (enclosingIn (take count spaces) x) ⌝ }
+// The number with which an entry of x is refused, or 0, by its enclosing space and what else is around it.
+pub(crate) fn judged(x: Space, tonnage_length: u32, found: Found, around: Around) -> u8
+    requires { ⌜ (around .beside ≤ 200 * 2 ^ 32) × (around .levels ≤ 8) ⌝ }
+    ensures { λ r. ⌜ r ≡ judgedNumber «tonnage_length» x (inFound found) around ⌝ }
 {
-    let found = enclosing(spaces, count, x);
-    match found {
-        Found::At(z) => (z.tonnage as u64)
-            < sum(spaces, count, Amount::Inside(x.within)) + x.tonnage as u64,
-        Found::Nothing => false,
+    if id_refused(x, around.taken) {
+        return 4;
     }
+    if unhoused(x, found) {
+        return 5;
+    }
+    if misplaced(x, found) {
+        return 6;
+    }
+    if LEVELS < around.levels + 1 {
+        return 7;
+    }
+    if off_twice(x, around.plain) {
+        return 8;
+    }
+    if overfull(x, tonnage_length, found, around.beside) {
+        return 9;
+    }
+    if around.full {
+        return 10;
+    }
+    0
+}
+
+// What 9 adds an entry to.
+fn beside(spaces: [Space; 200], count: usize, x: Space) -> u64
+    ensures { λ r. ⌜ (r ≡ besideOf (take count spaces) x) × (r ≤ 200 * 2 ^ 32) ⌝ }
+{
+    if x.kind == ROOM {
+        return sum(spaces, count, Amount::Inside(x.within));
+    }
+    if x.kind == UNDER_DECK {
+        return sum(spaces, count, Amount::Lengths);
+    }
+    0
 }
 
 // The number with which an entry of x is refused, or 0.
 pub fn entry_number(spaces: [Space; 200], count: usize, tonnage_length: u32, x: Space) -> u8
     ensures { λ r. ⌜ r ≡ entryNumber «tonnage_length» (take count spaces) x ⌝ }
 {
-    if id_refused(spaces, count, x) {
-        return 4;
-    }
-    if unhoused(spaces, count, x) {
-        return 5;
-    }
-    if misplaced(spaces, count, x) {
-        return 6;
-    }
+    let found = enclosing(spaces, count, x);
     let up = walk(spaces, count, x, LEVELS);
-    if LEVELS < up.levels + 1 {
-        return 7;
-    }
-    if off_twice(x, up.plain) {
-        return 8;
-    }
-    if overfull(spaces, count, tonnage_length, x) {
-        return 9;
-    }
-    if PLACES <= used(count) {
-        return 10;
-    }
-    0
+    let around = Around {
+        taken: stands(spaces, count, x.id),
+        levels: up.levels,
+        plain: up.plain,
+        beside: beside(spaces, count, x),
+        full: PLACES <= used(count),
+    };
+    judged(x, tonnage_length, found, around)
 }
 
 // 11: withdrawal of a space that encloses a room.

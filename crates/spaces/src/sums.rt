@@ -56,7 +56,7 @@ fn is_hull(x: Space) -> bool
 }
 
 // What a space adds to a sum.
-fn share(which: Amount, x: Space) -> u64
+pub(crate) fn share(which: Amount, x: Space) -> u64
     ensures { λ r. ⌜ (r ≡ amountOf which x) × (r < 2 ^ 32) ⌝ }
 {
     match which {

@@ -78,10 +78,6 @@ pub only-at-most : (test : Bool) (n : ℕ) → only test n ≤ n
 only-at-most true n = omega arith
 only-at-most false n = omega arith
 
-pub sum-append : (f : Space → ℕ) (xs ys : List Space) → sumBy f (xs ++ ys) ≡ sumBy f xs + sumBy f ys
-sum-append f [] ys = omega arith
-sum-append f (x ∷ xs) ys = omega (arith, sum-append f xs ys)
-
 pub sum-at-most : (f g : Space → ℕ) (xs : List Space) → ((y : Space) → y ∈ xs → f y ≤ g y) → sumBy f xs ≤ sumBy g xs
 sum-at-most f g [] h = omega arith
 sum-at-most f g (x ∷ xs) h =

@@ -17,8 +17,9 @@ use Rattle.spaces.specs.Enclosure.{above, level, allPlain}
 use Rattle.spaces.specs.Rules.{entryNumber}
 use Rattle.spaces.specs.Valid.{ValidFrom, done, next, Valid}
 use Rattle.spaces.proofs.laws.Cases.{by-test, none-not-some, some-same}
+use Rattle.spaces.proofs.laws.Row.{sum-append}
 use Rattle.spaces_laws.proofs.Tests.{and-holds}
-use Rattle.spaces_laws.proofs.Lists.{_∈_, all-snoc, find-here, find-before, find-behind, sum-append, sum-of-none, outside-adds-none}
+use Rattle.spaces_laws.proofs.Lists.{_∈_, all-snoc, find-here, find-before, find-behind, sum-of-none, outside-adds-none}
 use Rattle.spaces_laws.proofs.Walk.{Closed, upward-append}
 use Rattle.spaces_laws.proofs.Entry.{Enclosed, Accepted, facts-of-entry}
 

@@ -17,9 +17,10 @@ use Rattle.spaces.proofs.laws.Cases.{by-test, or-fails}
 use Rattle.sheet.specs.Sheet.{standing, blank}
 use Rattle.sheet.specs.Changes.{withStanding}
 use Rattle.sheet.specs.Calls.{reported}
-use Rattle.sheet.specs.Resume.{recordNumber, firstRefused, resumed}
+use Rattle.spaces.specs.Records.{recordNumber, firstRefused}
+use Rattle.sheet.specs.Resume.{resumed}
 use Rattle.sheet.specs.declared.sheet.Sheet.{Sheet}
-use Rattle.sheet.specs.declared.resume.RefusedRecord.{RefusedRecord}
+use Rattle.spaces.specs.declared.records.RefusedRecord.{RefusedRecord}
 use Rattle.sheet.specs.declared.resume.Resumed.{Resumed}
 use Rattle.sheet.proofs.laws.Calls.{passed, after-call}
 use Rattle.dayfile.specs.Fields.{fitting}

@@ -35,7 +35,7 @@ pub upward-short : (left : ℕ) (xs : List Space) (x : Space) → length (upward
 upward-short zero xs x = omega arith
 upward-short (suc left) xs x = onward-short (enclosing xs x) (λ z. upward left xs z) left (λ z. upward-short left xs z)
 
-pub walked-past : (z : Space) (zs : List Space) → walked (z ∷ zs) ≡ pastOf z (walked zs)
+pub walked-past : (z : Space) (zs : List Space) → walked (z ∷ zs) ≡ pastOf (z .standing) (walked zs)
 walked-past z zs = ap (λ (n : ℕ). record { levels = n; plain = isPlain z && allPlain zs }) (sym (add-one (length zs)))
 
 -- a space that isn't plain and is below stops the plain ones below; any other leaves them as they are

@@ -9,13 +9,12 @@ use native.Mathlib.Omega.{arith}
 use borrow.Author.Tests.{eq-eqb, ne-eqb, eqb-true, eqb-false}
 use lib.Dec.{eqb}
 use lib.ListN.{length, take, drop, getD, set, replicate, length-take, length-set, length-replicate, getD-replicate, drop-of-length-le}
-use lib.Seq.{drop-cons, getD-take, getD-set-same, getD-set-other, take-suc, take-suc-set, take-all}
+use lib.Seq.{drop-cons, getD-take, getD-set-same, getD-set-other, take-suc, take-suc-set, take-all, length-take-le}
 use Rattle.spaces.specs.Space.{emptySpace, isRoom}
-use Rattle.spaces.specs.Row.{used, placeOf}
+use Rattle.spaces.specs.Row.{placeOf}
 use Rattle.spaces.specs.Handed.{enclosingPlace, column, idsOf, placeIn, Indexed}
 use Rattle.spaces.specs.declared.space.Space.{Space}
 use Rattle.spaces.proofs.laws.Cases.{by-test}
-use Rattle.spaces.proofs.laws.Row.{used-is, take-used}
 
 -- ---- a number of each space
 
@@ -109,15 +108,11 @@ module _ (ids : List ℕ) (n : ℕ) (fits : n ≤ length ids) (index : List ℕ)
 pub all-indexed : (ids index : List ℕ) → IndexedFrom 0 ids index → Indexed ids index
 all-indexed ids index each id l = each id l ∙ zero-add _
 
--- ---- of the spaces that stand, by the 200 places
+-- ---- of the first n spaces
 
-module _ (spaces : List Space) (count : ℕ) (full : length spaces ≡ 200) where
-  pub place-standing : (id : ℕ) → placeIn id (take (used count) (idsOf spaces)) ≡ placeOf id (take count spaces)
-  place-standing id =
-      ap (placeIn id) (column-take (λ (x : Space). x .id) (used count) spaces ∙ ap idsOf (take-used spaces count full))
-      ∙ place-of-ids id (take count spaces)
+module _ (spaces : List Space) (n : ℕ) (fits : n ≤ length spaces) where
+  pub place-first : (id : ℕ) → placeIn id (take n (idsOf spaces)) ≡ placeOf id (take n spaces)
+  place-first id = ap (placeIn id) (column-take (λ (x : Space). x .id) n spaces) ∙ place-of-ids id (take n spaces)
 
-  pub enclosing-place-standing : (x : Space)
-      → cond (isRoom x) (placeIn (x .within) (take (used count) (idsOf spaces))) (used count) ≡ enclosingPlace (take count spaces) x
-  enclosing-place-standing x =
-      by-test (isRoom x) (λ r. rw r (place-standing (x .within))) (λ r. rw r (used-is spaces count full))
+  pub enclosing-place-first : (x : Space) → cond (isRoom x) (placeIn (x .within) (take n (idsOf spaces))) n ≡ enclosingPlace (take n spaces) x
+  enclosing-place-first x = by-test (isRoom x) (λ r. rw r (place-first (x .within))) (λ r. rw r (sym (length-take-le n spaces fits)))

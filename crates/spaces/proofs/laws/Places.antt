@@ -44,8 +44,13 @@ unplaced id [] e = refl
 unplaced id (x ∷ xs) e =
     by-test (eqb (x .id) id) (λ t. none-not-some (rw t at e) refl) (λ f. rw f (ap suc (unplaced id xs (rw f at e))))
 
+-- so no place is past the end
+pub place-bounded : (id : ℕ) (xs : List Space) → placeOf id xs ≤ length xs
+place-bounded id [] = omega arith
+place-bounded id (x ∷ xs) = by-test (eqb (x .id) id) (λ t. rw t (omega arith)) (λ f. rw f (omega (arith, place-bounded id xs)))
+
 -- no two ids have one place in the order
-one-id-at : (w id : ℕ) (xs : List Space) → placeOf w xs < length xs → placeOf w xs ≡ placeOf id xs → w ≡ id
+pub one-id-at : (w id : ℕ) (xs : List Space) → placeOf w xs < length xs → placeOf w xs ≡ placeOf id xs → w ≡ id
 one-id-at w id [] h e = absurd (omega arith)
 one-id-at w id (x ∷ xs) h e =
     by-test (eqb (x .id) w)
@@ -137,3 +142,11 @@ leads-above-standing spaces count full places each id i h =
     ap (λ (n : ℕ). leadsTo 8 n places i (placeOf id xs)) all
     ∙ leads-above xs places each id 8 i (omega arith)
     ∙ ap (λ (y : Space). among id (upward 8 xs y)) (standing-at spaces count full i h)
+
+-- a home is a place, or the one after the last
+pub home-within : (xs : List Space) (places : List ℕ) → EnclosingPlaces xs places → (i : ℕ) → i < length xs → getD places i 0 ≤ length xs
+home-within xs places each i h =
+    let x = getD xs i emptySpace in
+    by-test (isRoom x)
+    (λ r. let e : getD places i 0 ≡ placeOf (x .within) xs = each i h ∙ rw r in omega (arith, place-bounded (x .within) xs))
+    (λ r. let e : getD places i 0 ≡ length xs = each i h ∙ rw r in omega arith)

@@ -3,7 +3,7 @@ use mathlib.Core.Path.{_≡_, refl, sym, ap, _∙_}
 use mathlib.Core.Bool.{Bool, true, false}
 use borrow.Author.Tests.{leb-true, leb-false}
 use lib.Dec.{leb}
-use mathlib.Core.List.{List, [], _∷_}
+use mathlib.Core.List.{List, [], _∷_, _++_}
 use Prim.Native.Nat.{ℕ, suc, _+_, _≤_, _<_, min}
 use native.Mathlib.Nat.{min-le-left, min-eq-left, min-eq-right, lt-of-lt-of-le}
 use native.Mathlib.Numerals.{add-one}
@@ -11,7 +11,7 @@ use native.Mathlib.Omega.{arith}
 use lib.ListN.{length, take, drop, getD, length-take, drop-of-length-le}
 use lib.Seq.{drop-cons, getD-take, take-all}
 use Rattle.spaces.specs.Space.{emptySpace}
-use Rattle.spaces.specs.Row.{used}
+use Rattle.spaces.specs.Row.{used, sumBy}
 use Rattle.spaces.specs.declared.space.Space.{Space}
 
 module _ (spaces : List Space) (count : ℕ) (full : length spaces ≡ 200) where
@@ -43,3 +43,9 @@ module _ (spaces : List Space) (count : ℕ) (full : length spaces ≡ 200) wher
           ap (λ (k : ℕ). take k spaces) m
           ∙ take-all 200 spaces (omega arith)
           ∙ sym (take-all count spaces (omega arith))
+
+-- ---- sums
+
+pub sum-append : (f : Space → ℕ) (xs ys : List Space) → sumBy f (xs ++ ys) ≡ sumBy f xs + sumBy f ys
+sum-append f [] ys = omega arith
+sum-append f (x ∷ xs) ys = omega (arith, sum-append f xs ys)

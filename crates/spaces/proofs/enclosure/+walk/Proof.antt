@@ -68,7 +68,7 @@ module _ (t : ℕ) where
       let z = w .before .before .found .given .0 .0 in
       let e = found-at (enclosing xs (s .args .x)) (w .before .before .before .before .enclosing .ensures) (w .before .before .found .given .1) in
       c .past .ensures
-      ∙ ap (pastOf z) (w .walk .ensures)
+      ∙ ap (pastOf (z .standing)) (w .walk .ensures)
       ∙ sym (ap walked (upward-some (s .args .left) xs (s .args .x) (omega arith) e) ∙ walked-past z (upward (s .args .left - 1) xs z))
 
   returns-3 : lts.Need-returns-3 (told t) (now-left t) reads.Post

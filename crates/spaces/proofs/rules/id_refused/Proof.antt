@@ -10,11 +10,8 @@ returns c = simp (lt-ltb _ _ (c .if1 .taken))
 returns-2 : tie.Need-returns-2
 returns-2 c = simp (le-ltb _ _ (c .before .before .if1 .left), lt-ltb _ _ (c .if2 .taken))
 
-stands-requires : tie.Need-stands-requires
-stands-requires c κs = search needs
-
 returns-3 : tie.Need-returns-3
-returns-3 c = rw (le-ltb _ 1 (c .before .before .before .if1 .left), le-ltb 9999 _ (c .before .if2 .left)) (c .stands .ensures)
+returns-3 c = rw (le-ltb _ 1 (c .before .before .if1 .left), le-ltb 9999 _ (c .if2 .left))
 
 pub id-refused-spec : {M : Type 1} → statement M
-id-refused-spec = tie.close (tie.spec returns returns-2 stands-requires returns-3)
+id-refused-spec = tie.close (tie.spec returns returns-2 returns-3)

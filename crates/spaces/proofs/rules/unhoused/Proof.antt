@@ -1,19 +1,21 @@
 -- `rules::unhoused` meets its contract.
-use mathlib.Core.Path.{ap}
-use mathlib.Core.Bool.{not}
-use borrow.Author.Tests.{eq-eqb, ne-eqb}
+use Rattle.spaces.specs.Space.{isRoom}
+use Rattle.spaces.proofs.laws.Cases.{by-test}
 use borrow.Author.Needs.{needs}
 use Rattle.spaces.proofs.rules.unhoused.Statement.{statement}
 use Rattle.spaces.proofs.rules.unhoused.Tie as tie
 
-stands-requires : tie.Need-stands-requires
-stands-requires c κs = search needs
+enum-told : tie.Need-enum-told
+enum-told c = search needs
+
+enum-told-2 : tie.Need-enum-told-2
+enum-told-2 c = search needs
 
 returns : tie.Need-returns
-returns c = rw (eq-eqb _ 5 (c .before .if1 .taken)) (ap not (c .stands .ensures))
+returns c = rw (c .enum-told .given .1) (by-test (isRoom (c .before .before .args .x)) (λ t. rw t) (λ f. rw f))
 
 returns-2 : tie.Need-returns-2
-returns-2 c = simp (ne-eqb _ _ (c .if1 .left))
+returns-2 c = rw (c .before .enum-told2 .given .1) (by-test (isRoom (c .before .before .before .args .x)) (λ t. rw t) (λ f. rw f))
 
 pub unhoused-spec : {M : Type 1} → statement M
-unhoused-spec = tie.close (tie.spec stands-requires returns returns-2)
+unhoused-spec = tie.close (tie.spec enum-told enum-told-2 returns returns-2)

@@ -11,8 +11,9 @@ use Rattle.measure.proofs.laws.Tests.{holds, fails}
 use Rattle.spaces.proofs.laws.Row.{take-used}
 use Rattle.sheet.specs.Sheet.{blank}
 use Rattle.sheet.specs.Changes.{withStanding}
-use Rattle.sheet.specs.Resume.{firstRefused, sheetOf, refused, resumed}
-use Rattle.sheet.specs.declared.resume.RefusedRecord.{RefusedRecord}
+use Rattle.spaces.specs.Records.{firstRefused}
+use Rattle.sheet.specs.Resume.{sheetOf, refused, resumed}
+use Rattle.spaces.specs.declared.records.RefusedRecord.{RefusedRecord}
 use Rattle.sheet.specs.declared.sheet.Sheet.{Sheet}
 use borrow.Author.Needs.{needs}
 use native.Mathlib.Omega.{arith}

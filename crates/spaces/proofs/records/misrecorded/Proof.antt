@@ -1,4 +1,4 @@
--- `resume::misrecorded` meets its contract.
+-- `records::misrecorded` meets its contract.
 use mathlib.Core.Path.{_≡_, ap, _∙_}
 use borrow.Author.Tests.{lt-ltb, le-ltb, eq-eqb, ne-eqb}
 use Rattle.measure.specs.Ranges.{within, lengths}
@@ -6,8 +6,8 @@ use Rattle.measure.specs.Kinds.{kindOf}
 use Rattle.measure.proofs.laws.Tests.{holds, fails}
 use Rattle.measure.specs.declared.kinds.Kind.{Kind}
 use borrow.Author.Needs.{needs}
-use Rattle.sheet.proofs.resume.misrecorded.Statement.{statement}
-use Rattle.sheet.proofs.resume.misrecorded.Tie as tie
+use Rattle.spaces.proofs.records.misrecorded.Statement.{statement}
+use Rattle.spaces.proofs.records.misrecorded.Tie as tie
 
 returns : tie.Need-returns
 returns c = rw (lt-ltb 100000000 _ (c .if1 .taken))

@@ -1,0 +1,91 @@
+-- `enclosure::climb` meets its contract: the levels left fall with each step, and a step is the definition's first one.
+use Prim.Native.Nat.{ℕ, _-_, _<_}
+use mathlib.Core.Path.{sym, ap, _∙_}
+use native.Mathlib.Omega.{arith}
+use lib.ListN.{getD}
+use Rattle.spaces.specs.Handed.{pastOf, climbed}
+use Rattle.spaces.specs.declared.enclosure.Above.{Above}
+use Rattle.spaces.proofs.laws.Climb.{climbed-nowhere, climbed-on, climbed-short}
+use borrow.Author.Needs.{needs}
+use borrow.Fn.Kinds.{In}
+use borrow.Fn.PlainCycle.{Measures, is, falls, and}
+use Rattle.spaces.proofs.enclosure.climb.Reads as reads
+use Rattle.spaces.proofs.enclosure.climb.Kinds as kinds
+use Rattle.spaces.proofs.enclosure.past.Reads as past-reads
+use Rattle.spaces.proofs.enclosure.+climb.Lts-climb as lts
+use Rattle.spaces.proofs.enclosure.+climb.{statement}
+use Rattle.spaces.proofs.enclosure.+climb.Tie.{close}
+
+-- the levels left
+abbrev μ : Measures 2 kinds.ps ℕ
+μ κs a = a .1 .1 .1 .1 .0
+
+-- with t levels left, and with fewer
+abbrev now-left : ℕ → In 2 kinds.ps
+now-left t = and 2 kinds.ps (is 2 kinds.ps μ t) reads.Pre
+
+abbrev fewer-left : ℕ → In 2 kinds.ps
+fewer-left t = and 2 kinds.ps (falls 2 kinds.ps _<_ μ t) reads.Pre
+
+-- what the functions called ask and tell
+abbrev told : ℕ → lts.Claims
+told t = (fewer-left t, reads.Post, past-reads.Asked, past-reads.Learnt)
+
+module _ (t : ℕ) where
+  returns : lts.Need-returns (told t) (now-left t) reads.Post
+  unfolding climbed
+  returns c = rw (c .if1 .taken)
+
+  mul-next : lts.Need-mul-next (told t) (now-left t) reads.Post
+  mul-next c = omega arith
+
+  element-copy-out-next : lts.Need-element-copy-out-next (told t) (now-left t) reads.Post
+  element-copy-out-next c = omega arith
+
+  returns-2 : lts.Need-returns-2 (told t) (now-left t) reads.Post
+  returns-2 c =
+      let a = c .before .before .before .args in
+      sym (climbed-nowhere (a .left) (a .most) (a .places .now) (a .standings .now) (a .at) (c .if2 .taken))
+
+  sub-climb : lts.Need-sub-climb (told t) (now-left t) reads.Post
+  sub-climb c = omega arith
+
+  climb-requires : lts.Need-climb-requires (told t) (now-left t) reads.Post
+  climb-requires c κs =
+      let s = c .before .before .before in
+      (omega (arith, s .pre .0), (omega (arith, s .pre .1), omega arith, omega arith))
+
+  element-copy-out-past : lts.Need-element-copy-out-past (told t) (now-left t) reads.Post
+  element-copy-out-past c = omega arith
+
+  past-requires : lts.Need-past-requires (told t) (now-left t) reads.Post
+  past-requires c κs =
+      let s = c .before .before .before .before .before in
+      let a = s .args in
+      omega (arith, s .pre .1, ap (λ (w : Above). w .levels) (c .before .climb .ensures), climbed-short (a .left - 1) (a .most) (a .places .now) (a .standings .now) (getD (a .places .now) (a .at) 0))
+
+  returns-3 : lts.Need-returns-3 (told t) (now-left t) reads.Post
+  returns-3 c =
+      let w = c .before in
+      let a = w .before .before .before .before .before .args in
+      c .past .ensures
+      ∙ ap (pastOf (getD (a .standings .now) (getD (a .places .now) (a .at) 0) 0)) (w .before .climb .ensures)
+      ∙ sym (climbed-on (a .left) (a .most) (a .places .now) (a .standings .now) (a .at) (omega arith) (omega arith))
+
+pub +climb-spec : {M : Type 1} → statement M
++climb-spec =
+    close
+    μ
+    λ t. lts.spec
+    (told t)
+    (now-left t)
+    reads.Post
+    (returns t)
+    (mul-next t)
+    (element-copy-out-next t)
+    (returns-2 t)
+    (sub-climb t)
+    (climb-requires t)
+    (element-copy-out-past t)
+    (past-requires t)
+    (returns-3 t)

@@ -1,0 +1,107 @@
+-- The chain upward climbed by places, among the first of some spaces: what stands before a place, one level of the climb, and that it
+-- meets what the walk meets. Stands on Places and Index.
+use Prim.Native.Nat.{ℕ, zero, suc, _+_, _-_, _≤_, _<_}
+use mathlib.Core.Path.{_≡_, refl, sym, ap, ap₂, _∙_}
+use mathlib.Core.Bool.{Bool, true, false, cond}
+use mathlib.Core.List.{List, [], _∷_}
+use mathlib.Core.Option.{Option, none, some}
+use native.Mathlib.Omega.{arith}
+use borrow.Author.Tests.{ltb-true, ltb-false, lt-ltb, le-ltb, eqb-true}
+use lib.Dec.{eqb, ltb}
+use lib.ListN.{length, take, getD}
+use Rattle.spaces.specs.Space.{emptySpace, isRoom}
+use Rattle.spaces.specs.Row.{find, placeOf, isSome, stands}
+use Rattle.spaces.specs.Enclosure.{enclosing, upward, onward}
+use Rattle.spaces.specs.Handed.{walked, pastOf, enclosingPlace, EnclosingPlaces, climbed, standingsOf}
+use Rattle.spaces.specs.declared.space.Space.{Space}
+use Rattle.spaces.specs.declared.enclosure.Above.{Above}
+use Rattle.spaces.proofs.laws.Cases.{by-test}
+use Rattle.spaces.proofs.laws.Enclosure.{upward-none, upward-next, walked-past}
+
+-- ---- among the first i spaces
+
+-- an id stands there where its place is before i
+pub found-before : (id : ℕ) (xs : List Space) (i : ℕ) → i ≤ length xs
+    → find id (take i xs) ≡ cond (ltb (placeOf id xs) i) (some (getD xs (placeOf id xs) emptySpace)) none
+found-before id xs zero h = sym (ap (λ (b : Bool). cond b (some (getD xs (placeOf id xs) emptySpace)) none) (le-ltb (placeOf id xs) 0 (omega arith)))
+found-before id [] (suc i) h = absurd (omega arith)
+found-before id (x ∷ xs) (suc i) h =
+    by-test (eqb (x .id) id)
+    (λ t. rw (t, lt-ltb 0 (suc i) (omega arith)))
+    (λ f. rw f (found-before id xs i (omega arith) ∙ ap (λ (b : Bool). cond b (some (getD xs (placeOf id xs) emptySpace)) none) (shifted (placeOf id xs) i)))
+  where
+    shifted : (p i : ℕ) → ltb p i ≡ ltb (suc p) (suc i)
+    shifted p i =
+        by-test (ltb p i)
+        (λ t. t ∙ sym (lt-ltb (suc p) (suc i) (omega (arith, ltb-true p i t))))
+        (λ f. f ∙ sym (le-ltb (suc p) (suc i) (omega (arith, ltb-false p i f))))
+
+pub stands-before : (id : ℕ) (xs : List Space) (i : ℕ) → i ≤ length xs → stands id (take i xs) ≡ ltb (placeOf id xs) i
+stands-before id xs i h = ap isSome (found-before id xs i h) ∙ some-where (ltb (placeOf id xs) i)
+  where
+    some-where : (b : Bool) → isSome (cond b (some (getD xs (placeOf id xs) emptySpace)) none) ≡ b
+    some-where true = refl
+    some-where false = refl
+
+-- and the enclosing space of any where its place is
+pub enclosing-before : (x : Space) (xs : List Space) (i : ℕ) → i ≤ length xs
+    → enclosing (take i xs) x ≡ cond (ltb (enclosingPlace xs x) i) (some (getD xs (enclosingPlace xs x) emptySpace)) none
+enclosing-before x xs i h =
+    by-test (isRoom x)
+    (λ r. rw r (found-before (x .within) xs i h))
+    (λ r. rw (r, le-ltb (length xs) i h))
+
+-- ---- a climb
+
+pub climbed-nowhere : (left most : ℕ) (places standings : List ℕ) (at : ℕ) → most ≤ getD places at 0
+    → climbed left most places standings at ≡ walked []
+unfolding climbed
+climbed-nowhere zero most places standings at h = refl
+climbed-nowhere (suc left) most places standings at h = rw (le-ltb (getD places at 0) most h)
+
+pub climbed-on : (left most : ℕ) (places standings : List ℕ) (at : ℕ) → 0 < left → getD places at 0 < most
+    → let next = getD places at 0 in climbed left most places standings at ≡ pastOf (getD standings next 0) (climbed (left - 1) most places standings next)
+unfolding climbed
+climbed-on zero most places standings at h g = absurd (omega arith)
+climbed-on (suc left) most places standings at h g =
+    let next = getD places at 0 in
+    let l : left ≡ suc left - 1 = omega arith in
+    rw (lt-ltb next most g) (ap (λ (k : ℕ). pastOf (getD standings next 0) (climbed k most places standings next)) l)
+
+pub climbed-short : (left most : ℕ) (places standings : List ℕ) (at : ℕ) → climbed left most places standings at .levels ≤ left
+unfolding climbed
+climbed-short zero most places standings at = omega arith
+climbed-short (suc left) most places standings at =
+    let next = getD places at 0 in
+    let further = climbed-short left most places standings next in
+    by-test (ltb next most) (λ t. rw t (omega arith)) (λ f. rw f (omega arith))
+
+-- it meets what the walk meets
+pub climbed-walk : (xs : List Space) (places standings : List ℕ) → EnclosingPlaces xs places
+    → ((p : ℕ) → p < length xs → getD standings p 0 ≡ getD xs p emptySpace .standing)
+    → (i : ℕ) → i ≤ length xs → (left at : ℕ) → at < length xs
+    → climbed left i places standings at ≡ walked (upward left (take i xs) (getD xs at emptySpace))
+unfolding climbed
+climbed-walk xs places standings each stand i h zero at l = refl
+climbed-walk xs places standings each stand i h (suc left) at l =
+    let x = getD xs at emptySpace in
+    let next = enclosingPlace xs x in
+    let e = enclosing-before x xs i h in
+    by-test (ltb next i)
+    (λ t.
+    let z = getD xs next emptySpace in
+    let k = ltb-true next i t in
+    let found : enclosing (take i xs) x ≡ some z = rw t at e in
+    rw (each at l, t)
+    (ap₂ pastOf (stand next (omega arith)) (climbed-walk xs places standings each stand i h left next (omega arith)) ∙ sym (walked-past z (upward left (take i xs) z)))
+    ∙ sym (ap walked (upward-next left (take i xs) x found)))
+    (λ f.
+    let none-there : enclosing (take i xs) x ≡ none = rw f at e in
+    rw (each at l, f) (sym (ap walked (upward-none (suc left) (take i xs) x none-there))))
+
+-- the standings of all the places, at those of the first n
+pub standing-there : (spaces : List Space) (n p : ℕ) → p < length (take n spaces) → getD (standingsOf spaces) p 0 ≡ getD (take n spaces) p emptySpace .standing
+standing-there spaces zero p h = absurd (omega arith)
+standing-there [] (suc n) p h = absurd (omega arith)
+standing-there (x ∷ spaces) (suc n) zero h = refl
+standing-there (x ∷ spaces) (suc n) (suc p) h = standing-there spaces n p (omega arith)

@@ -1,0 +1,14 @@
+-- `records::beside` meets its contract.
+use borrow.Author.Tests.{eq-eqb, ne-eqb}
+use borrow.Author.Needs.{needs}
+use Rattle.spaces.proofs.records.beside.Statement.{statement}
+use Rattle.spaces.proofs.records.beside.Tie as tie
+
+returns : tie.Need-returns
+returns c = rw (eq-eqb _ 5 (c .if1 .taken))
+
+returns-2 : tie.Need-returns-2
+returns-2 c = rw (ne-eqb _ 5 (c .if1 .left))
+
+pub beside-spec : {M : Type 1} → statement M
+beside-spec = tie.close (tie.spec returns returns-2)
