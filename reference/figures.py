@@ -1,7 +1,8 @@
 """The text protocol of the program `figures`, and a seeded script of lines that visits every edge of the rules.
 
-A line and its answer (ASCII, one space between words; an empty line or one beginning with '#' has no answer):
-    space KIND TONNAGE_LENGTH LENGTH H h1 .. hH B b1 .. bB      NUMBER TONNAGE PARTS THIRD
+A line and its answer. Words, numbers and lists are those of reference/survey.py, and so is what a value above its type is
+handed on as; an empty line or one beginning with '#' has no answer:
+    space KIND TONNAGE_LENGTH LENGTH HEIGHTS BREADTHS           NUMBER TONNAGE PARTS THIRD
     hatchways G SUM                                             ALLOWANCE EXCESS
     ballast BALLAST GROSS                                       1 where ballast is over 30% of gross, else 0
 
@@ -13,19 +14,24 @@ import sys
 from fractions import Fraction
 from math import gcd
 from random import Random
-from typing import Callable, Iterator, NamedTuple, Sequence
+from typing import Any, Callable, Iterator, NamedTuple, Sequence
 
 from reference import command_line, measure as m
 from reference.measure import B, H, R, S, U
-
-GREATEST_KIND = 255
-GREATEST_MEASURE = 4_294_967_295
-GREATEST_AMOUNT = 10**18 - 1  # of G, SUM, BALLAST and GROSS
-MOST_HEIGHTS = 32
-MOST_BREADTHS = 160
+from reference.survey import (
+    GREATEST_MEASURE, GREATEST_NUMBER, MOST_NUMBERS, UNKNOWN_CALL, WRONG_NUMBER_OF_WORDS, NoCall, a_code, a_measure,
+    measures, number,
+)
 
 
 # The protocol
+
+def word(argument: int | Sequence[int]) -> str:
+    """A number, or numbers joined by commas, '-' for none."""
+    if isinstance(argument, int):
+        return str(argument)
+    return ",".join(map(str, argument)) or "-"
+
 
 class Space(NamedTuple):
     """What a `space` line hands in."""
@@ -38,45 +44,25 @@ class Space(NamedTuple):
 
     def line(self) -> str:
         """The line that hands in this space."""
-        numbers = [self.kind, self.tonnage_length, self.length]
-        numbers += [len(self.heights), *self.heights, len(self.breadths), *self.breadths]
-        return "space " + " ".join(map(str, numbers))
+        return " ".join(["space", *map(word, self)])
 
 
-def number(word: str, greatest: int) -> int:
-    """A word of decimal digits, up to the greatest number its place takes."""
-    if not (word.isascii() and word.isdigit()) or int(word) > greatest:
-        raise ValueError(f"not a number from 0 to {greatest}: {word!r}")
-    return int(word)
-
-
-def counted(words: list[str], most: int) -> tuple[list[int], list[str]]:
-    """A count, then that many measures; and the words behind them."""
-    if not words:
-        raise ValueError("a count is missing")
-    count = number(words[0], most)
-    if len(words) <= count:
-        raise ValueError("fewer measures than counted")
-    return [number(word, GREATEST_MEASURE) for word in words[1:count + 1]], words[count + 1:]
+def read(readers: Sequence[Callable[[str], Any]], words: list[str]) -> list[Any]:
+    """The words behind the first, each as it is to be read."""
+    if len(words) != len(readers):
+        raise NoCall(WRONG_NUMBER_OF_WORDS)
+    return [reader(one) for reader, one in zip(readers, words)]
 
 
 def space_of(words: list[str]) -> Space:
     """The words of a `space` line behind its first."""
-    if len(words) < 3:
-        raise ValueError("a kind and two lengths are needed")
-    kind = number(words[0], GREATEST_KIND)
-    tonnage_length, length = (number(word, GREATEST_MEASURE) for word in words[1:3])
-    heights, rest = counted(words[3:], MOST_HEIGHTS)
-    breadths, rest = counted(rest, MOST_BREADTHS)
-    if rest:
-        raise ValueError("more measures than counted")
-    return Space(kind, tonnage_length, length, heights, breadths)
+    return Space(*read((a_code, a_measure, a_measure, measures, measures), words))
 
 
 def amounts(words: list[str]) -> tuple[int, int]:
     """The two amounts of a `hatchways` or `ballast` line."""
-    first, second = words
-    return number(first, GREATEST_AMOUNT), number(second, GREATEST_AMOUNT)
+    first, second = read((number, number), words)
+    return first, second
 
 
 def answer_space(words: list[str]) -> str:
@@ -104,12 +90,12 @@ ANSWERS: dict[str, Callable[[list[str]], str]] = {
 
 
 def answer(line: str) -> str | None:
-    """The answer to one line, None where it gives none; a line outside the protocol raises ValueError."""
+    """The answer to one line, None where it gives none; a line outside the protocol raises NoCall."""
     if not line or line.startswith("#"):
         return None
     first, *words = line.split(" ")
     if first not in ANSWERS:
-        raise ValueError(f"unknown line: {line!r}")
+        raise NoCall(UNKNOWN_CALL)
     return ANSWERS[first](words)
 
 
@@ -174,9 +160,9 @@ def places(values: Sequence[int]) -> list[int]:
     return sorted({0, len(values) // 2, len(values) - 1})
 
 
-def outermost(greatest: int) -> tuple[int, int, int]:
-    """The greatest measure in range, one more, and the greatest that can be put."""
-    return greatest, greatest + 1, GREATEST_MEASURE
+def outermost(greatest: int) -> tuple[int, ...]:
+    """The greatest measure in range, one more, the greatest that its type holds, and two that it doesn't."""
+    return greatest, greatest + 1, GREATEST_MEASURE, GREATEST_MEASURE + 2, GREATEST_NUMBER
 
 
 def a_length(rng: Random) -> int:
@@ -472,16 +458,16 @@ def wrong_numbers(rng: Random) -> Iterator[str]:
     for space in examples(rng) + more:
         heights, breadths = space.heights, space.breadths
         one = rng.randint(1, 999)
-        for other in (heights[:-1], [*heights, one], [], heights * 2, [one] * MOST_HEIGHTS):
+        for other in (heights[:-1], [*heights, one], [], heights * 2, [one] * MOST_NUMBERS):
             yield space._replace(heights=other).line()
-        for other in (breadths[:-1], [*breadths, one], [], breadths * 2, [one] * MOST_BREADTHS):
+        for other in (breadths[:-1], [*breadths, one], [], breadths * 2, [one] * MOST_NUMBERS):
             yield space._replace(breadths=other).line()
         yield space._replace(heights=heights[:-1], breadths=breadths[:-1]).line()
         yield space._replace(heights=[*heights, one], breadths=[*breadths, one]).line()
         yield space._replace(heights=[*heights, one, one], breadths=[*breadths, one, one]).line()
         yield space._replace(heights=heights[:-1], breadths=[*breadths, one]).line()
         yield space._replace(heights=[], breadths=[]).line()
-        yield space._replace(heights=breadths[:MOST_HEIGHTS], breadths=heights).line()
+        yield space._replace(heights=breadths, breadths=heights).line()
     yield asked(rng, B, 4800, 4800)._replace(length=12000).line()  # accepted: the tonnage length gives the number
     yield asked(rng, B, 12000, 12000)._replace(tonnage_length=4800).line()
     yield asked(rng, S, 4800, 4800)._replace(length=1600).line()
@@ -534,7 +520,7 @@ def surplus_out_of_range(rng: Random) -> Iterator[str]:
 def unknown_kinds(rng: Random) -> Iterator[str]:
     """Kinds that aren't in the table, whatever is handed in with them."""
     yield "# Unknown kinds"
-    for kind in (0, 6, 7, 100, 254, 255):
+    for kind in (0, 6, 7, 100, 254, 255, 256, 257, GREATEST_NUMBER):
         for space in examples(rng):
             yield space._replace(kind=kind).line()
         yield bare(kind, 4800, 4800).line()
@@ -570,23 +556,23 @@ def hatchways(rng: Random) -> Iterator[str]:
     yield "# Hatchways"
     edges = [0, 1, 98, 99, 100, 101, 102, 199, 200, 299, 300, 301, 12401, 20000]
     edges += [200 * rng.randrange(10**power) + by for power in (2, 4, 6, 8, 12, 15) for by in (99, 100, 101)]
-    edges += [GREATEST_AMOUNT - by for by in (99, 100, 98, 1, 0)]
+    edges += [GREATEST_NUMBER - by for by in (99, 100, 98, 1, 0)]
     for g in edges:
         allowance = m.hatchway_allowance(g)
         for total in (0, allowance - 1, allowance, allowance + 1, allowance + rng.randrange(10**6)):
             if total >= 0:
                 yield f"hatchways {g} {total}"
-        yield f"hatchways {g} {GREATEST_AMOUNT}"
+        yield f"hatchways {g} {GREATEST_NUMBER}"
 
 
 def ballasts(rng: Random) -> Iterator[str]:
     """Ballast at 30% of gross exactly, one more and one less, and at gross that has no whole 30%."""
     yield "# Water ballast"
-    grosses = [0, 1, 2, 3, 4, 7, 9, 10, 11, 20, 100, 999, 1000, 1001, 12401, GREATEST_AMOUNT - 9, GREATEST_AMOUNT]
+    grosses = [0, 1, 2, 3, 4, 7, 9, 10, 11, 20, 100, 999, 1000, 1001, 12401, GREATEST_NUMBER - 9, GREATEST_NUMBER]
     grosses += [10 * rng.randrange(10**power) + by for power in (2, 5, 8, 11, 14, 17) for by in (0, 1, 3, 9)]
     for gross in grosses:
         share = gross * 3 // 10
-        for ballast in sorted({0, max(share - 1, 0), share, share + 1, gross, GREATEST_AMOUNT}):
+        for ballast in sorted({0, max(share - 1, 0), share, share + 1, gross, GREATEST_NUMBER}):
             yield f"ballast {ballast} {gross}"
 
 

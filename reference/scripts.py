@@ -13,7 +13,7 @@ from random import Random
 from typing import Callable, Iterator, Sequence
 
 from reference import command_line, dayfile, figures, files, measure as m, sheet as s
-from reference.figures import one_of
+from reference.figures import one_of, word
 from reference.measure import B, H, R, S, U
 from reference.sheet import BALLAST, DEDUCTED, EXEMPT, PLAIN, Sheet
 from reference.survey import GREATEST_SIZE, MOST_DIGITS, MOST_NUMBERS, Session, in_hex
@@ -29,13 +29,6 @@ BEYOND_32 = (2**32 - 1, 2**32, 2**32 + 600, 2**64 - 1)  # measures likewise
 
 
 # Lines
-
-def word(argument: int | Sequence[int]) -> str:
-    """A number, or numbers joined by commas, '-' for none."""
-    if isinstance(argument, int):
-        return str(argument)
-    return ",".join(map(str, argument)) or "-"
-
 
 def call(name: str, *arguments: int | Sequence[int]) -> str:
     """The line of a call."""

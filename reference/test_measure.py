@@ -11,6 +11,7 @@ from unittest import mock
 from reference import figures, measure as m
 from reference.figures import Space, uniform
 from reference.measure import B, H, R, S, U
+from reference.survey import NoCall
 
 
 class FiguresOfThePaper(unittest.TestCase):
@@ -288,9 +289,9 @@ class Properties(unittest.TestCase):
         self.assertEqual(m.measure(H, 4800, 100, [49], [100]), (0, 0))
 
     def test_allowance_and_ballast_in_whole_numbers(self) -> None:
-        for g in [*range(1000), 10**18 - 1, 10**18 - 100]:
+        for g in [*range(1000), 2**64 - 1, 2**64 - 100]:
             self.assertEqual(m.hatchway_allowance(g), (g + 100) // 200)
-        for gross in [*range(60), 10**18 - 1]:
+        for gross in [*range(60), 2**64 - 1]:
             for ballast in (floor(gross * Fraction(3, 10)) + by for by in (-1, 0, 1)):
                 self.assertEqual(m.ballast_over(ballast, gross), 10 * ballast > 3 * gross)
 
@@ -299,10 +300,12 @@ class Protocol(unittest.TestCase):
     """The lines and their answers."""
 
     def test_answers(self) -> None:
-        self.assertEqual(figures.answer("space 3 4800 1600 3 800 800 800 3 1000 1000 1000"), "0 1280 2 2667")
-        self.assertEqual(figures.answer("space 3 4800 1600 0 0"), "3 0 2 2667")
-        self.assertEqual(figures.answer("space 255 4800 1600 0 0"), "2 0 0 0")
-        self.assertEqual(figures.answer("space 4 4800 500 1 500 1 400"), "0 100 0 0")
+        self.assertEqual(figures.answer("space 3 4800 1600 800,800,800 1000,1000,1000"), "0 1280 2 2667")
+        self.assertEqual(figures.answer("space 3 4800 1600 - -"), "3 0 2 2667")
+        self.assertEqual(figures.answer("space 255 4800 1600 - -"), "2 0 0 0")
+        self.assertEqual(figures.answer("space 259 4800 1600 - -"), "2 0 0 0")
+        self.assertEqual(figures.answer("space 4 4800 500 500 400"), "0 100 0 0")
+        self.assertEqual(figures.answer("space 4 4800 500 4294967796 400"), "2 0 0 0")
         self.assertEqual(figures.answer("hatchways 20000 101"), "100 1")
         self.assertEqual(figures.answer("ballast 301 1000"), "1")
         self.assertEqual(figures.answer("ballast 300 1000"), "0")
@@ -314,18 +317,17 @@ class Protocol(unittest.TestCase):
 
     def test_lines_outside_the_protocol(self) -> None:
         for line in (
-            "spaces 1", "space", "space 3 4800 1600", "space 3 4800 1600 0", "space 3 4800 1600 0 1",
-            "space 3 4800 1600 0 0 0", "space 256 4800 1600 0 0", "space 3 4294967296 1600 0 0", "space 3 -1 1600 0 0",
-            "space 3  4800 1600 0 0", "space 3 4800 1600 33" + " 1" * 33 + " 0", "space 3 4800 1600 0 161" + " 1" * 161,
-            "ballast 1", "ballast 1 2 3", "ballast 1 1000000000000000000", "hatchways 1_0 1", " ballast 1 1",
+            "spaces 1", "space", "space 3 4800 1600", "space 3 4800 1600 -", "space 3 4800 1600 - - -", "space 3 -1 1600 - -",
+            "space 3  4800 1600 - -", "space 3 4800 1600 1, 1", "space 3 4800 1600 1,-",
+            "space 3 4800 1600 1" + ",1" * 1024 + " -", "ballast 1", "ballast 1 2 3", "ballast 1 18446744073709551616", "hatchways 1_0 1", " ballast 1 1",
             "ballast 1 1 ", "ballast 1 1\r",
         ):
-            with self.assertRaises(ValueError, msg=line):
+            with self.assertRaises(NoCall, msg=line):
                 figures.answer(line)
 
     def test_a_line_hands_in_its_space(self) -> None:
         space = Space(1, 2, 3, [4, 5], [6, 7, 8])
-        self.assertEqual(space.line(), "space 1 2 3 2 4 5 3 6 7 8")
+        self.assertEqual(space.line(), "space 1 2 3 4,5 6,7,8")
         self.assertEqual(figures.space_of(space.line().split(" ")[1:]), space)
 
     def run_main(self, arguments: list[str], text: str = "") -> tuple[int, str]:
@@ -570,8 +572,8 @@ class Script(unittest.TestCase):
             self.assertTrue(any(space.length == greatest for space in of_kind))
             self.assertTrue(any(greatest in space.heights for space in of_kind))
             self.assertTrue(any(greatest in space.breadths for space in of_kind))
-        self.assertEqual(max(len(space.heights) for space, *_ in self.spaces), 32)
-        self.assertEqual(max(len(space.breadths) for space, *_ in self.spaces), 160)
+        self.assertEqual(max(len(space.heights) for space, *_ in self.spaces), 1024)
+        self.assertEqual(max(len(space.breadths) for space, *_ in self.spaces), 1024)
 
     def test_hatchways(self) -> None:
         found = self.amounts("hatchways")
@@ -581,14 +583,14 @@ class Script(unittest.TestCase):
             self.assertGreaterEqual(len({g for g, _ in found if g % 200 == rest}), 6)
         for by in (-1, 0, 1):
             self.assertGreaterEqual(sum(total - m.hatchway_allowance(g) == by for g, total in found), 20)
-        self.assertIn((10**18 - 1, 10**18 - 1), found)
+        self.assertIn((2**64 - 1, 2**64 - 1), found)
 
     def test_ballast(self) -> None:
         found = self.amounts("ballast")
         self.assertGreaterEqual(len(found), 200)
         self.assertIn((0, 0), found)
         self.assertIn((1, 0), found)
-        self.assertIn((10**18 - 1, 10**18 - 1), found)
+        self.assertIn((2**64 - 1, 2**64 - 1), found)
         whole = [(ballast - gross * 3 // 10, gross) for ballast, gross in found if gross % 10 == 0 and gross > 0]
         for by in (-1, 0, 1):
             self.assertGreaterEqual(sum(one == by for one, _ in whole), 6)

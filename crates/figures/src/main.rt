@@ -1,16 +1,15 @@
 // Figures of one space, by the proved library: offsets in, tonnages out, a line each. It is how the library is held
 // against the second program (reference/figures.py), and how a newcomer tries it. What it prints is tested, not proved.
 //
-//   space KIND TONNAGE_LENGTH LENGTH H h1 .. hH B b1 .. bB   answers   NUMBER TONNAGE PARTS THIRD
-//   hatchways G SUM                                          answers   ALLOWANCE EXCESS
-//   ballast BALLAST GROSS                                    answers   1 where over 30%, else 0
+//   space KIND TONNAGE_LENGTH LENGTH HEIGHTS BREADTHS   answers   NUMBER TONNAGE PARTS THIRD
+//   hatchways G SUM                                     answers   ALLOWANCE EXCESS
+//   ballast BALLAST GROSS                               answers   1 where over 30%, else 0
 //
-// Words are separated by one space; empty lines and those that begin with `#` give no answer.
-mod words;
-
+// Words, numbers and lists are those of `survey`; every other line gives no answer.
 use libc::STDIN_FILENO;
 use libc::STDOUT_FILENO;
 use measure::units::Hundredths;
+use script::words;
 ghost use mathlib.Core.Path.{_≡_};
 ghost use lib.ListN.{length};
 
@@ -30,43 +29,34 @@ fn script_buffer() -> [u8; 1048576]
 fn answer_lines(text: &[u8]) {
     let mut at = 0;
     while at < text.len() {
-        let end = words::line_end(text, at);
+        let end = words::part_end(text, at, b'\n');
         answer(&text[at..end]);
         at = end + 1;
     }
 }
 
 fn answer(line: &[u8]) {
-    if line.len() == 0 {
-        return;
+    let name = words::word(line, 0);
+    if words::same(name, b"space") {
+        answer_space(line);
     }
-    let first = line[0];
-    match first {
-        b's' => answer_space(line),
-        b'h' => answer_hatchways(line),
-        b'b' => answer_ballast(line),
-        _ => (),
+    if words::same(name, b"hatchways") {
+        answer_hatchways(line);
+    }
+    if words::same(name, b"ballast") {
+        answer_ballast(line);
     }
 }
 
 fn answer_space(line: &[u8]) {
-    let code = words::after_word(line);
-    let tonnage_length = code.following(line);
-    let length = tonnage_length.following(line);
-    let count = length.following(line);
-    let mut heights = [0u32; 32];
-    let breadth_count = words::list(line, count, &mut heights);
-    let mut breadths = [0u32; 160];
-    words::list(line, breadth_count, &mut breadths);
-    let h = words::at_most(count.value, 32);
-    let b = words::at_most(breadth_count.value, 160);
-    answer_offsets(
-        code.byte(),
-        tonnage_length.measure(),
-        length.measure(),
-        &heights[..h],
-        &breadths[..b],
-    );
+    let code = words::code(words::word(line, 1));
+    let tonnage_length = words::measure(words::word(line, 2));
+    let length = words::measure(words::word(line, 3));
+    let mut heights = [0u32; 1024];
+    let h = words::measures(words::word(line, 4), &mut heights);
+    let mut breadths = [0u32; 1024];
+    let b = words::measures(words::word(line, 5), &mut breadths);
+    answer_offsets(code, tonnage_length, length, &heights[..h], &breadths[..b]);
 }
 
 fn answer_offsets(code: u8, tonnage_length: u32, length: u32, heights: &[u32], breadths: &[u32]) {
@@ -81,19 +71,16 @@ fn answer_offsets(code: u8, tonnage_length: u32, length: u32, heights: &[u32], b
 }
 
 fn answer_hatchways(line: &[u8]) {
-    let g = words::after_word(line);
-    let sum = g.following(line);
-    print_number(measure::allowances::hatchway_allowance(g.value), b" ");
-    print_number(
-        measure::allowances::hatchway_excess(g.value, sum.value),
-        b"\n",
-    );
+    let g = words::value(words::word(line, 1));
+    let sum = words::value(words::word(line, 2));
+    print_number(measure::allowances::hatchway_allowance(g), b" ");
+    print_number(measure::allowances::hatchway_excess(g, sum), b"\n");
 }
 
 fn answer_ballast(line: &[u8]) {
-    let ballast = words::after_word(line);
-    let gross = ballast.following(line);
-    let over = measure::allowances::ballast_over(ballast.value, gross.value);
+    let ballast = words::value(words::word(line, 1));
+    let gross = words::value(words::word(line, 2));
+    let over = measure::allowances::ballast_over(ballast, gross);
     print_number(over as u64, b"\n");
 }
 

@@ -1,10 +1,10 @@
 // Answer lines. The first number of each is the paper's number of refusal, 0 for accepted; a line that is no call is
 // answered by a remark. What a call handed back is answered, and its sheet handed on.
 use crate::calls::Remark;
-use crate::hex;
 use dayfile::Reading;
 use dayfile::Written;
 use libc::STDOUT_FILENO;
+use script::hex;
 use sheet::Changed;
 use sheet::Counted;
 use sheet::Reported;
@@ -123,6 +123,7 @@ fn part_end(at: usize, all: usize) -> usize
     all
 }
 
+// So few bytes that the digits of all of them fit.
 fn print_hex(bytes: &[u8])
     requires { ⌜ length (now bytes) ≤ 2048 ⌝ }
 {

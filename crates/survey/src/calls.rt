@@ -1,8 +1,8 @@
 // Which call a line is, and whether its words are what the call asks. A line that is no call gets the first remark that
 // fits: of its first word, of the number of its words, then of the words behind the call from left to right.
-use crate::hex;
-use crate::words;
-use crate::words::Number;
+use script::hex;
+use script::words;
+use script::words::Number;
 
 pub enum Call {
     Open,

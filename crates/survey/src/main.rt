@@ -3,14 +3,14 @@
 // What it prints is tested, not proved.
 mod answers;
 mod calls;
-mod hex;
-mod words;
 
 use calls::Call;
 use calls::Judged;
 use calls::Named;
 use calls::Remark;
 use libc::STDIN_FILENO;
+use script::hex;
+use script::words;
 use sheet::Changed;
 use sheet::Entry;
 use sheet::Sheet;

@@ -1,8 +1,9 @@
 -- `answer_lines` meets its contract: each line is a part of the text, and the next begins behind it.
 use Prim.Native.Nat.{_-_}
-use lib.ListN.{length}
-use borrow.Author.Needs.{needs}
 use native.Mathlib.Omega.{arith}
+use lib.ListN.{length}
+use Rattle.script.proofs.laws.Parts.{part-ends}
+use borrow.Author.Needs.{needs}
 use Rattle.figures.proofs.answer_lines.Statement.{statement}
 use Rattle.figures.proofs.answer_lines.Tie as tie
 
@@ -14,31 +15,46 @@ abbrev μ-loop : tie.MeasureT-loop
 μ-loop text at₀ at = length text - at
 
 loop-holds : tie.Need-loop-holds Inv-loop μ-loop
-loop-holds c = tt
+loop-holds c = search needs
 
-line-end-requires : tie.Need-line-end-requires Inv-loop μ-loop
-line-end-requires c κs = search needs
+part-end-requires : tie.Need-part-end-requires Inv-loop μ-loop
+part-end-requires c κs = search needs
 
 sub-answer : tie.Need-sub-answer Inv-loop μ-loop
-sub-answer c = search needs
+sub-answer c =
+    let l = c .before .before in
+    let ends = part-ends 10 (l .before .before .args .text .now) (l .loop .at) (c .part-end .ensures) (omega arith) in
+    search needs
 
 part-answer-start : tie.Need-part-answer-start Inv-loop μ-loop
-part-answer-start c = search needs
+part-answer-start c =
+    let l = c .before .before in
+    let ends = part-ends 10 (l .before .before .args .text .now) (l .loop .at) (c .part-end .ensures) (omega arith) in
+    search needs
 
 part-answer-end : tie.Need-part-answer-end Inv-loop μ-loop
-part-answer-end c = search needs
+part-answer-end c =
+    let l = c .before .before in
+    let ends = part-ends 10 (l .before .before .args .text .now) (l .loop .at) (c .part-end .ensures) (omega arith) in
+    search needs
 
 answer-requires : tie.Need-answer-requires Inv-loop μ-loop
 answer-requires c κs = search needs
 
 add-at : tie.Need-add-at Inv-loop μ-loop
-add-at c = search needs
+add-at c =
+    let l = c .before .before .before .before in
+    let ends = part-ends 10 (l .before .before .args .text .now) (l .loop .at) (c .before .before .part-end .ensures) (omega arith) in
+    search needs
 
 loop-less : tie.Need-loop-less Inv-loop μ-loop
-loop-less c = omega arith
+loop-less c =
+    let l = c .before .before .before .before in
+    let ends = part-ends 10 (l .before .before .args .text .now) (l .loop .at) (c .before .before .part-end .ensures) (omega arith) in
+    search needs
 
 loop-again : tie.Need-loop-again Inv-loop μ-loop
-loop-again c = tt
+loop-again c = search needs
 
 returns : tie.Need-returns Inv-loop μ-loop
 returns c = search needs
@@ -50,7 +66,7 @@ answer-lines-spec =
     Inv-loop
     μ-loop
     loop-holds
-    line-end-requires
+    part-end-requires
     sub-answer
     part-answer-start
     part-answer-end

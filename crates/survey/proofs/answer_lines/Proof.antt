@@ -1,6 +1,8 @@
 -- `answer_lines` meets its contract: each line is a part of the text, and the next begins behind it.
 use Prim.Native.Nat.{_-_}
+use native.Mathlib.Omega.{arith}
 use lib.ListN.{length}
+use Rattle.script.proofs.laws.Parts.{part-ends}
 use borrow.Author.Needs.{needs}
 use Rattle.survey.proofs.answer_lines.Statement.{statement}
 use Rattle.survey.proofs.answer_lines.Tie as tie
@@ -22,22 +24,37 @@ part-end-requires : tie.Need-part-end-requires Inv-loop μ-loop
 part-end-requires c κs = search needs
 
 sub-answer-line : tie.Need-sub-answer-line Inv-loop μ-loop
-sub-answer-line c = search needs
+sub-answer-line c =
+    let l = c .before .before in
+    let ends = part-ends 10 (l .before .before .before .args .text .now) (l .loop .at) (c .part-end .ensures) (omega arith) in
+    search needs
 
 part-answer-line-start : tie.Need-part-answer-line-start Inv-loop μ-loop
-part-answer-line-start c = search needs
+part-answer-line-start c =
+    let l = c .before .before in
+    let ends = part-ends 10 (l .before .before .before .args .text .now) (l .loop .at) (c .part-end .ensures) (omega arith) in
+    search needs
 
 part-answer-line-end : tie.Need-part-answer-line-end Inv-loop μ-loop
-part-answer-line-end c = search needs
+part-answer-line-end c =
+    let l = c .before .before in
+    let ends = part-ends 10 (l .before .before .before .args .text .now) (l .loop .at) (c .part-end .ensures) (omega arith) in
+    search needs
 
 answer-line-requires : tie.Need-answer-line-requires Inv-loop μ-loop
 answer-line-requires c κs = search needs
 
 add-at : tie.Need-add-at Inv-loop μ-loop
-add-at c = search needs
+add-at c =
+    let l = c .before .before .before .before in
+    let ends = part-ends 10 (l .before .before .before .args .text .now) (l .loop .at) (c .before .before .part-end .ensures) (omega arith) in
+    search needs
 
 loop-less : tie.Need-loop-less Inv-loop μ-loop
-loop-less c = search needs
+loop-less c =
+    let l = c .before .before .before .before in
+    let ends = part-ends 10 (l .before .before .before .args .text .now) (l .loop .at) (c .before .before .part-end .ensures) (omega arith) in
+    search needs
 
 loop-again : tie.Need-loop-again Inv-loop μ-loop
 loop-again c = search needs

@@ -1,6 +1,8 @@
 -- `calls::judge_list` meets its contract: each number is a part of the list, and the next begins behind it.
 use Prim.Native.Nat.{_+_, _-_}
+use native.Mathlib.Omega.{arith}
 use lib.ListN.{length}
+use Rattle.script.proofs.laws.Parts.{part-ends}
 use borrow.Author.Needs.{needs}
 use Rattle.survey.proofs.calls.judge_list.Statement.{statement}
 use Rattle.survey.proofs.calls.judge_list.Tie as tie
@@ -31,13 +33,22 @@ part-end-requires : tie.Need-part-end-requires Inv-loop μ-loop
 part-end-requires c κs = search needs
 
 sub-judge-number : tie.Need-sub-judge-number Inv-loop μ-loop
-sub-judge-number c = search needs
+sub-judge-number c =
+    let l = c .before .before in
+    let ends = part-ends 44 (l .before .before .before .before .before .before .args .list .now) (l .loop .at) (c .part-end .ensures) (omega arith) in
+    search needs
 
 part-judge-number-start : tie.Need-part-judge-number-start Inv-loop μ-loop
-part-judge-number-start c = search needs
+part-judge-number-start c =
+    let l = c .before .before in
+    let ends = part-ends 44 (l .before .before .before .before .before .before .args .list .now) (l .loop .at) (c .part-end .ensures) (omega arith) in
+    search needs
 
 part-judge-number-end : tie.Need-part-judge-number-end Inv-loop μ-loop
-part-judge-number-end c = search needs
+part-judge-number-end c =
+    let l = c .before .before in
+    let ends = part-ends 44 (l .before .before .before .before .before .before .args .list .now) (l .loop .at) (c .part-end .ensures) (omega arith) in
+    search needs
 
 judge-number-requires : tie.Need-judge-number-requires Inv-loop μ-loop
 judge-number-requires c κs = search needs
@@ -52,10 +63,16 @@ returns-3 : tie.Need-returns-3 Inv-loop μ-loop
 returns-3 c = search needs
 
 add-at : tie.Need-add-at Inv-loop μ-loop
-add-at c = search needs
+add-at c =
+    let l = c .before .before .before .before .before .before in
+    let ends = part-ends 44 (l .before .before .before .before .before .before .args .list .now) (l .loop .at) (c .before .before .before .before .part-end .ensures) (omega arith) in
+    search needs
 
 loop-less : tie.Need-loop-less Inv-loop μ-loop
-loop-less c = search needs
+loop-less c =
+    let l = c .before .before .before .before .before .before in
+    let ends = part-ends 44 (l .before .before .before .before .before .before .args .list .now) (l .loop .at) (c .before .before .before .before .part-end .ensures) (omega arith) in
+    search needs
 
 loop-again : tie.Need-loop-again Inv-loop μ-loop
 loop-again c = search needs

@@ -1,0 +1,153 @@
+-- What the definitions of specs/ mean: the parts of a text joined again, a number by its places, hex written and read back.
+use Prim.Native.Nat.{ℕ, zero, suc, _+_, _*_, _-_, _/_, _%_, _^_, _≤_, _<_}
+use Prim.Native.Char.{code}
+use mathlib.Core.Path.{_≡_, refl, sym, ap, _∙_}
+use mathlib.Core.Bool.{Bool, true, false, cond, _&&_, _||_, and-eq-true-iff}
+use mathlib.Core.List.{List, [], _∷_, _++_}
+use native.Mathlib.Nat.{add-mul, mul-assoc, zero-add, pow-succ'}
+use native.Mathlib.Omega.{arith}
+use borrow.Author.Tests.{lt-ltb, le-ltb, le-leb, lt-leb, eq-eqb, eqb-true, ltb-true, ltb-false}
+use lib.Dec.{ltb, eqb}
+use lib.ListN.{length, getD}
+use Rattle.script.specs.Words.{onFirst, partsOf, marksIn, first, behind, sameText, isDecimal, isLetter, isDigit, allDigits, valueBehind}
+use Rattle.script.specs.Hex.{digitValue, hexDigit, bytesOf, hexOf}
+use Rattle.script.proofs.laws.Parts.{part-at}
+use Rattle.script.proofs.laws.Hex.{decimal-range, letter-range}
+
+-- ---- parts of a text
+
+-- parts with the mark between them
+unfoldable pub joined : ℕ → List (List ℕ) → List ℕ
+joined mark [] = []
+joined mark (part ∷ []) = part
+joined mark (part ∷ next ∷ rest) = part ++ (mark ∷ joined mark (next ∷ rest))
+
+same-number : (x : ℕ) (parts : List (List ℕ)) → length (onFirst x parts) ≡ length parts
+same-number x [] = refl
+same-number x (part ∷ parts) = refl
+
+-- one part more than marks
+pub parts-counted : (mark : ℕ) (text : List ℕ) → length (partsOf mark text) ≡ suc (marksIn mark text)
+parts-counted mark [] = refl
+parts-counted mark (x ∷ xs) =
+    elim (eqb x mark) as (λ b. length (cond b ([] ∷ partsOf mark xs) (onFirst x (partsOf mark xs))) ≡ suc (cond b 1 0 + marksIn mark xs))
+    [ true ↦ omega (arith, parts-counted mark xs) | false ↦ omega (arith, same-number x (partsOf mark xs), parts-counted mark xs) ]
+
+joined-begun : (mark : ℕ) (parts : List (List ℕ)) → 0 < length parts → joined mark ([] ∷ parts) ≡ mark ∷ joined mark parts
+unfolding joined
+joined-begun mark [] h = absurd (omega arith)
+joined-begun mark (part ∷ parts) h = refl
+
+joined-longer : (mark x : ℕ) (parts : List (List ℕ)) → 0 < length parts → joined mark (onFirst x parts) ≡ x ∷ joined mark parts
+unfolding joined
+joined-longer mark x [] h = absurd (omega arith)
+joined-longer mark x (part ∷ []) h = refl
+joined-longer mark x (part ∷ next ∷ rest) h = refl
+
+-- they give the text again
+pub parts-joined : (mark : ℕ) (text : List ℕ) → joined mark (partsOf mark text) ≡ text
+unfolding joined
+parts-joined mark [] = refl
+parts-joined mark (x ∷ xs) = by (eqb x mark) refl (parts-joined mark xs)
+  where
+    some : 0 < length (partsOf mark xs)
+    some = omega (arith, parts-counted mark xs)
+
+    by : (b : Bool) → eqb x mark ≡ b → joined mark (partsOf mark xs) ≡ xs
+        → joined mark (cond b ([] ∷ partsOf mark xs) (onFirst x (partsOf mark xs))) ≡ x ∷ xs
+    by true e others = joined-begun mark (partsOf mark xs) some ∙ ap (λ (l : List ℕ). mark ∷ l) others ∙ ap (λ (y : ℕ). y ∷ xs) (sym (eqb-true x mark e))
+    by false e others = joined-longer mark x (partsOf mark xs) some ∙ ap (λ (l : List ℕ). x ∷ l) others
+
+first-unmarked : (mark : ℕ) (xs : List ℕ) → marksIn mark (first mark xs) ≡ 0
+first-unmarked mark [] = refl
+first-unmarked mark (x ∷ xs) = by (eqb x mark) refl (first-unmarked mark xs)
+  where
+    by : (b : Bool) → eqb x mark ≡ b → marksIn mark (first mark xs) ≡ 0 → marksIn mark (cond b [] (x ∷ first mark xs)) ≡ 0
+    by true e none = refl
+    by false e none = rw e (zero-add _ ∙ none)
+
+-- and none has a mark in it: so there is one way to cut a text
+pub part-unmarked : (mark k : ℕ) (text : List ℕ) → marksIn mark (getD (partsOf mark text) k []) ≡ 0
+part-unmarked mark k text = ap (marksIn mark) (sym (part-at mark k text)) ∙ first-unmarked mark (behind mark k text)
+
+-- ---- two texts
+
+pub same-text : (xs ys : List ℕ) → sameText xs ys ≡ true → xs ≡ ys
+same-text [] [] e = refl
+same-text [] (y ∷ ys) e = cc
+same-text (x ∷ xs) [] e = cc
+same-text (x ∷ xs) (y ∷ ys) e =
+    let both = and-eq-true-iff (eqb x y) _ .0 e in
+    ap (λ (z : ℕ). z ∷ xs) (eqb-true x y (both .0)) ∙ ap (λ (l : List ℕ). y ∷ l) (same-text xs ys (both .1))
+
+pub text-same : (xs : List ℕ) → sameText xs xs ≡ true
+text-same [] = refl
+text-same (x ∷ xs) = rw (eq-eqb x x refl) (text-same xs)
+
+-- ---- a number
+
+value-ahead : (v : ℕ) (xs : List ℕ) → valueBehind v xs ≡ v * 10 ^ length xs + valueBehind 0 xs
+value-ahead v [] = omega arith
+value-ahead v (x ∷ xs) =
+    let d = x - code "0" in
+    let p = 10 ^ length xs in
+    let left : valueBehind (v * 10 + d) xs ≡ (v * 10 + d) * p + valueBehind 0 xs = value-ahead (v * 10 + d) xs in
+    let right : valueBehind (0 + d) xs ≡ (0 + d) * p + valueBehind 0 xs = value-ahead (0 + d) xs in
+    let parted : (v * 10 + d) * p ≡ v * 10 * p + d * p = add-mul (v * 10) d p in
+    let tens : v * 10 * p ≡ v * (10 * p) = mul-assoc v 10 p in
+    let none : (0 + d) * p ≡ d * p = ap (λ (k : ℕ). k * p) (zero-add d) in
+    rw (pow-succ' 10 (length xs)) (omega arith)
+
+-- each digit counts ten to the power of how many stand behind it
+pub value-by-place : (x : ℕ) (xs : List ℕ) → valueBehind 0 (x ∷ xs) ≡ (x - code "0") * 10 ^ length xs + valueBehind 0 xs
+value-by-place x xs = value-ahead (0 * 10 + (x - code "0")) xs ∙ ap (λ (d : ℕ). d * 10 ^ length xs + valueBehind 0 xs) (zero-add (x - code "0"))
+
+-- ---- hex
+
+digit-back : (v : ℕ) → v < 16 → digitValue (hexDigit v) ≡ v
+digit-back v h = by (ltb v 10) refl
+  where
+    by : (b : Bool) → ltb v 10 ≡ b → digitValue (cond b (code "0" + v) (code "a" + (v - 10))) ≡ v
+    by true e =
+        let l : v < 10 = ltb-true v 10 e in
+        simp (le-leb 48 (48 + v) (omega arith), le-leb (48 + v) 57 (omega arith)) (omega arith)
+    by false e =
+        let l : 10 ≤ v = ltb-false v 10 e in
+        simp (le-leb 48 (97 + (v - 10)) (omega arith), lt-leb (97 + (v - 10)) 57 (omega arith), le-leb 97 (97 + (v - 10)) (omega arith), le-leb (97 + (v - 10)) 102 (omega arith)) (omega arith)
+
+-- bytes written as hex digits are read back
+pub hex-read : (bytes : List ℕ) → ((k : ℕ) → getD bytes k 0 < 256) → bytesOf (hexOf bytes) ≡ bytes
+hex-read [] h = refl
+hex-read (b ∷ bs) h =
+    let l : b < 256 = h 0 in
+    let e : digitValue (hexDigit (b / 16)) * 16 + digitValue (hexDigit (b % 16)) ≡ b =
+    rw (digit-back (b / 16) (omega arith), digit-back (b % 16) (omega arith)) (omega arith) in
+    ap (λ (x : ℕ). x ∷ bytesOf (hexOf bs)) e ∙ ap (λ (l : List ℕ). b ∷ l) (hex-read bs (λ k. h (suc k)))
+
+digit-written : (x : ℕ) → isDigit true x ≡ true → (hexDigit (digitValue x) ≡ x) × (digitValue x < 16)
+digit-written x e = by (isDecimal x) refl (isLetter x) refl (sym e)
+  where
+    by : (d : Bool) → isDecimal x ≡ d → (l : Bool) → isLetter x ≡ l → true ≡ (isDecimal x || isLetter x)
+        → (hexDigit (cond d (x - code "0") (cond l (x - code "a" + 10) 0)) ≡ x) × (cond d (x - code "0") (cond l (x - code "a" + 10) 0) < 16)
+    by true d l f t =
+        let r = decimal-range x d in
+        (simp (lt-ltb (x - 48) 10 (omega arith)) (omega arith), omega arith)
+    by false d true f t =
+        let r = letter-range x f in
+        (simp (le-ltb (x - 97 + 10) 10 (omega arith)) (omega arith), omega arith)
+    by false d false f t =
+        let z : _≡_ {A = ℕ} 0 1 = cc in
+        absurd (omega arith)
+
+-- and a word of hex digits that was read is written again
+pub hex-written : (word : List ℕ) → length word % 2 ≡ 0 → allDigits true word ≡ true → hexOf (bytesOf word) ≡ word
+hex-written [] even e = refl
+hex-written (x ∷ []) even e = let z : _≡_ {A = ℕ} 0 1 = sym even in absurd (omega arith)
+hex-written (x ∷ y ∷ rest) even e =
+    let both = and-eq-true-iff (isDigit true x) _ .0 e in
+    let others = and-eq-true-iff (isDigit true y) _ .0 (both .1) in
+    let high = digit-written x (both .0) in
+    let low = digit-written y (others .0) in
+    let h : (digitValue x * 16 + digitValue y) / 16 ≡ digitValue x = omega arith in
+    let l : (digitValue x * 16 + digitValue y) % 16 ≡ digitValue y = omega arith in
+    rw (h, l, high .0, low .0, hex-written rest (omega arith) (others .1))

@@ -1,0 +1,4 @@
+-- How a script is read (the protocol of reference/survey.py): read these files from top to bottom.
+pub mod Laid
+pub mod Words
+pub mod Hex

@@ -1,0 +1,46 @@
+-- `read` meets its contract: the bytes that were laid are no more than the file has places.
+use Rattle.script.proofs.laws.Laid.{laid-front}
+use borrow.Author.Needs.{needs}
+use Rattle.survey.proofs.read.Statement.{statement}
+use Rattle.survey.proofs.read.Tie as tie
+
+large-buffer-requires : tie.Need-large-buffer-requires
+large-buffer-requires c κs = search needs
+
+word-requires : tie.Need-word-requires
+word-requires c κs = search needs
+
+slice-aggregate-bytes : tie.Need-slice-aggregate-bytes
+slice-aggregate-bytes c = search needs
+
+bytes-requires : tie.Need-bytes-requires
+bytes-requires c κs = search needs
+
+array-share-prefix-file : tie.Need-array-share-prefix-file
+array-share-prefix-file c = search needs
+
+slice-aggregate-read : tie.Need-slice-aggregate-read
+slice-aggregate-read c = laid-front _ _ (c .before .before .bytes .ensures)
+
+read-requires : tie.Need-read-requires
+read-requires c κs = search needs
+
+read-requires-2 : tie.Need-read-requires-2
+read-requires-2 c κs = search needs
+
+returns : tie.Need-returns
+returns c = search needs
+
+pub read-spec : {M : Type 1} → statement M
+read-spec =
+    tie.close
+    (tie.spec
+    large-buffer-requires
+    word-requires
+    slice-aggregate-bytes
+    bytes-requires
+    array-share-prefix-file
+    slice-aggregate-read
+    read-requires
+    read-requires-2
+    returns)

@@ -1,3 +1,0 @@
--- What the program reads of a script (the protocol of reference/survey.py).
-pub mod Words
-pub mod Hex
