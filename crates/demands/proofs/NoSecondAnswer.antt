@@ -7,6 +7,14 @@ use mathlib.Core.Path.{_≡_, sym, _∙_}
 use mathlib.Core.Bool.{Bool, false}
 use mathlib.Core.List.{List, []}
 use lib.ListN.{length, take, drop}
+use Rattle.script.specs.Laid.{fitting, laid}
+use Rattle.script.specs.Words.{partEnd, marksIn, wordAt, sameText, numberOf, valueIn, idOf, codeOf, measureOf, sizeOf, isEmptyList, measuresOf}
+use Rattle.script.specs.Hex.{isHex, bytesOf, hexFitting}
+use Rattle.script.specs.Calls.{callNamed, judged}
+use Rattle.script.specs.declared.words.Number.{Number}
+use Rattle.script.specs.declared.calls.Call.{Call}
+use Rattle.script.specs.declared.calls.Named.{Named}
+use Rattle.script.specs.declared.calls.Judged.{Judged}
 use Rattle.measure.specs.Kinds.{kindOf}
 use Rattle.measure.specs.Thirds.{divided as dividedOf}
 use Rattle.measure.specs.Ranges.{within, tonnageLengths, lengths}
@@ -42,8 +50,26 @@ use Rattle.listing.specs.Listing.{listed}
 use Rattle.listing.specs.declared.listing.Listing.{Listing}
 
 -- the public functions of the libraries (tools/promises.py holds the names to the code), by what they are given and what they answer. An array is the list of its places; the
--- answer of `write` is its value and the whole buffer after it.
+-- answer of `write` is its value and the whole buffer after it, and so with what lays into an array.
 pub data Public : Type 0 → Type 0 → Type 1 where
+  -- script
+  part-end : Public (List ℕ × ℕ × ℕ) ℕ
+  marks : Public (List ℕ × ℕ) ℕ
+  word : Public (List ℕ × ℕ) (List ℕ)
+  same : Public (List ℕ × List ℕ) Bool
+  number-in : Public (List ℕ) Number
+  value-in : Public (List ℕ) ℕ
+  id-in : Public (List ℕ) ℕ
+  code-in : Public (List ℕ) ℕ
+  measure-in : Public (List ℕ) ℕ
+  size-in : Public (List ℕ) ℕ
+  is-empty-list : Public (List ℕ) Bool
+  measures : Public (List ℕ × List ℕ) (ℕ × List ℕ)
+  is-hex : Public (List ℕ) Bool
+  bytes : Public (List ℕ × List ℕ) (ℕ × List ℕ)
+  digits : Public (List ℕ × List ℕ) (ℕ × List ℕ)
+  call-named : Public (List ℕ) Named
+  judge : Public (List ℕ × Call) Judged
   -- measure
   kind-of : Public ℕ Kind
   divided : Public (Kind × Hundredths × Hundredths) Division
@@ -94,6 +120,23 @@ pub data Public : Type 0 → Type 0 → Type 1 where
 
 -- what each promises
 unfoldable pub promised : {Given Answer : Type 0} → Public Given Answer → Given → Answer
+promised part-end (text, at, byte) = partEnd byte at text
+promised marks (text, byte) = marksIn byte text
+promised word (line, place) = wordAt place line
+promised same (a, b) = sameText a b
+promised number-in text = numberOf text
+promised value-in text = valueIn (numberOf text)
+promised id-in text = idOf text
+promised code-in text = codeOf text
+promised measure-in text = measureOf text
+promised size-in text = sizeOf text
+promised is-empty-list text = isEmptyList text
+promised measures (text, into) = (fitting (measuresOf text) into, laid (measuresOf text) into)
+promised is-hex text = isHex text
+promised bytes (text, into) = (fitting (bytesOf text) into, laid (bytesOf text) into)
+promised digits (file, into) = (fitting (hexFitting file into) into, laid (hexFitting file into) into)
+promised call-named text = callNamed text
+promised judge (line, call) = judged line call
 promised kind-of code = kindOf code
 promised divided (kind, t, l) = dividedOf kind t l
 promised stations (kind, t, l) = stationsOf kind t l

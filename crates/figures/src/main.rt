@@ -49,9 +49,9 @@ fn answer(line: &[u8]) {
 }
 
 fn answer_space(line: &[u8]) {
-    let code = words::code(words::word(line, 1));
-    let tonnage_length = words::measure(words::word(line, 2));
-    let length = words::measure(words::word(line, 3));
+    let code = words::code_in(words::word(line, 1));
+    let tonnage_length = words::measure_in(words::word(line, 2));
+    let length = words::measure_in(words::word(line, 3));
     let mut heights = [0u32; 1024];
     let h = words::measures(words::word(line, 4), &mut heights);
     let mut breadths = [0u32; 1024];
@@ -71,15 +71,15 @@ fn answer_offsets(code: u8, tonnage_length: u32, length: u32, heights: &[u32], b
 }
 
 fn answer_hatchways(line: &[u8]) {
-    let g = words::value(words::word(line, 1));
-    let sum = words::value(words::word(line, 2));
+    let g = words::value_in(words::word(line, 1));
+    let sum = words::value_in(words::word(line, 2));
     print_number(measure::allowances::hatchway_allowance(g), b" ");
     print_number(measure::allowances::hatchway_excess(g, sum), b"\n");
 }
 
 fn answer_ballast(line: &[u8]) {
-    let ballast = words::value(words::word(line, 1));
-    let gross = words::value(words::word(line, 2));
+    let ballast = words::value_in(words::word(line, 1));
+    let gross = words::value_in(words::word(line, 2));
     let over = measure::allowances::ballast_over(ballast, gross);
     print_number(over as u64, b"\n");
 }

@@ -2,11 +2,12 @@
 use Prim.Native.Nat.{ℕ}
 use Prim.Native.Char.{code}
 use mathlib.Core.List.{List, [], _∷_, _++_}
+use Rattle.script.specs.Text.{ascii}
 use Rattle.measure.specs.Kinds.{kindOf}
 use Rattle.measure.specs.declared.kinds.Kind.{Kind}
 use Rattle.measure.specs.declared.kinds.Kind.the-variants.{UnderDeck, BetweenDeck, Superstructure, Hatchway, Room, NoKind}
 use Rattle.spaces.specs.declared.space.Space.{Space}
-use Rattle.listing.specs.Text.{ascii, decimal, hundredths, line}
+use Rattle.listing.specs.Text.{decimal, hundredths, line}
 
 -- the letter of a kind; no sheet that is read holds a code that stands for none
 abbrev pub letter : Kind → ℕ

@@ -4,12 +4,12 @@ use mathlib.Core.Bool.{cond}
 use mathlib.Core.List.{List, _++_}
 use lib.Dec.{eqb, ltb}
 use lib.ListN.{length, replicate}
+use Rattle.script.specs.Text.{ascii}
 use Rattle.spaces.specs.Gross.{gross, net}
 use Rattle.sheet.specs.Sheet.{standing}
 use Rattle.sheet.specs.declared.sheet.Sheet.{Sheet}
 use Rattle.dayfile.specs.Reading.{readOf}
 use Rattle.dayfile.specs.declared.reading.Reading.{Reading}
-use Rattle.listing.specs.Text.{ascii}
 use Rattle.listing.specs.Lines.{figureLine, spaceLines, refusalLine}
 use Rattle.listing.specs.declared.listing.Listing.{Listing}
 

@@ -1,15 +1,9 @@
--- Numbers and words as bytes of text.
+-- Numbers and lines as bytes of text; words are those of a script (`ascii`).
 use Prim.Native.Nat.{ℕ, zero, suc, _+_, _/_, _%_}
 use Prim.Native.Char.{code}
-use Prim.Native.String.{String, [] as empty, _∷_ as _then_}
 use mathlib.Core.Bool.{cond}
 use mathlib.Core.List.{List, [], _∷_, _++_}
 use lib.Dec.{ltb}
-
--- the bytes of a word of plain letters
-abbrev pub ascii : String → List ℕ
-ascii empty = []
-ascii (_then_ c rest) = code c ∷ ascii rest
 
 -- the last digit of a number
 abbrev pub digit : ℕ → ℕ

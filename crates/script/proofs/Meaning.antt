@@ -1,17 +1,24 @@
--- What the definitions of specs/ mean: the parts of a text joined again, a number by its places, hex written and read back.
-use Prim.Native.Nat.{ℕ, zero, suc, _+_, _*_, _-_, _/_, _%_, _^_, _≤_, _<_}
+-- What the definitions of specs/ mean: the parts of a text joined again, a number by its places, hex written and read back, and what a
+-- line that fits leaves to its call.
+use Prim.Native.Nat.{ℕ, suc, _+_, _*_, _-_, _/_, _%_, _^_, _≤_, _<_}
 use Prim.Native.Char.{code}
 use mathlib.Core.Path.{_≡_, refl, sym, ap, _∙_}
-use mathlib.Core.Bool.{Bool, true, false, cond, _&&_, _||_, and-eq-true-iff}
-use mathlib.Core.List.{List, [], _∷_, _++_}
+use mathlib.Core.Bool.{Bool, true, false, cond, _||_, and-eq-true-iff}
+use mathlib.Core.List.{List, [], _∷_, _++_, map}
 use native.Mathlib.Nat.{add-mul, mul-assoc, zero-add, pow-succ'}
 use native.Mathlib.Omega.{arith}
 use borrow.Author.Tests.{lt-ltb, le-ltb, le-leb, lt-leb, eq-eqb, eqb-true, ltb-true, ltb-false}
 use lib.Dec.{ltb, eqb}
-use lib.ListN.{length, getD}
+use lib.ListN.{length, getD, length-map}
 use Rattle.script.specs.Words.{onFirst, partsOf, marksIn, first, behind, sameText, isDecimal, isLetter, isDigit, allDigits, valueBehind}
-use Rattle.script.specs.Hex.{digitValue, hexDigit, bytesOf, hexOf}
-use Rattle.script.proofs.laws.Parts.{part-at}
+use Rattle.script.specs.Words.{measureOf, isEmptyList, numbersOf, measuresOf}
+use Rattle.script.specs.Hex.{isHex, digitValue, hexDigit, bytesOf, hexOf}
+use Rattle.script.specs.Calls.{names, callNamed, judgedNumbers, judgedList, judgedHex}
+use Rattle.script.specs.declared.calls.Call.{Call}
+use Rattle.script.specs.declared.calls.Named.the-variants.{Known}
+use Rattle.script.specs.declared.calls.Remark.the-variants.{ListTooLong, FileTooLong, NotHex}
+use Rattle.script.specs.declared.calls.Judged.the-variants.{Fits, NoCall}
+use Rattle.script.proofs.laws.Parts.{part-at, parts-counted}
 use Rattle.script.proofs.laws.Hex.{decimal-range, letter-range}
 
 -- ---- parts of a text
@@ -21,17 +28,6 @@ unfoldable pub joined : ℕ → List (List ℕ) → List ℕ
 joined mark [] = []
 joined mark (part ∷ []) = part
 joined mark (part ∷ next ∷ rest) = part ++ (mark ∷ joined mark (next ∷ rest))
-
-same-number : (x : ℕ) (parts : List (List ℕ)) → length (onFirst x parts) ≡ length parts
-same-number x [] = refl
-same-number x (part ∷ parts) = refl
-
--- one part more than marks
-pub parts-counted : (mark : ℕ) (text : List ℕ) → length (partsOf mark text) ≡ suc (marksIn mark text)
-parts-counted mark [] = refl
-parts-counted mark (x ∷ xs) =
-    elim (eqb x mark) as (λ b. length (cond b ([] ∷ partsOf mark xs) (onFirst x (partsOf mark xs))) ≡ suc (cond b 1 0 + marksIn mark xs))
-    [ true ↦ omega (arith, parts-counted mark xs) | false ↦ omega (arith, same-number x (partsOf mark xs), parts-counted mark xs) ]
 
 joined-begun : (mark : ℕ) (parts : List (List ℕ)) → 0 < length parts → joined mark ([] ∷ parts) ≡ mark ∷ joined mark parts
 unfolding joined
@@ -151,3 +147,35 @@ hex-written (x ∷ y ∷ rest) even e =
     let h : (digitValue x * 16 + digitValue y) / 16 ≡ digitValue x = omega arith in
     let l : (digitValue x * 16 + digitValue y) % 16 ≡ digitValue y = omega arith in
     rw (h, l, high .0, low .0, hex-written rest (omega arith) (others .1))
+
+-- ---- calls
+
+-- each name of the table is its call's alone
+pub each-named : map (λ (row : List ℕ × Call). callNamed (row .0)) names ≡ map (λ (row : List ℕ × Call). Known (row .1)) names
+each-named = refl
+
+-- a list that fits has no more numbers than 1,024, so that all of them are laid into so many places
+pub list-fits : (list : List ℕ) → judgedList list ≡ Fits → length (measuresOf list) ≤ 1024
+unfolding judgedList measuresOf
+list-fits list e = by (ltb 1024 (length (numbersOf list))) refl e
+  where
+    by : (b : Bool) → ltb 1024 (length (numbersOf list)) ≡ b → cond b (NoCall ListTooLong) (judgedNumbers (numbersOf list)) ≡ Fits
+        → length (map measureOf (numbersOf list)) ≤ 1024
+    by true t f = let z : _≡_ {A = ℕ} 0 1 = cc in absurd (omega arith)
+    by false t f = omega (arith, length-map (numbersOf list) measureOf, ltb-false 1024 (length (numbersOf list)) t)
+
+bytes-half : (word : List ℕ) → 2 * length (bytesOf word) ≤ length word
+bytes-half [] = omega arith
+bytes-half (x ∷ []) = omega arith
+bytes-half (x ∷ y ∷ rest) = omega (arith, bytes-half rest)
+
+-- and a file that fits has no more than 65,536 bytes
+pub file-fits : (word : List ℕ) → judgedHex word ≡ Fits → length (bytesOf word) ≤ 65536
+unfolding judgedHex
+file-fits word e = by (isEmptyList word) refl (ltb 131072 (length word)) refl e
+  where
+    by : (a : Bool) → isEmptyList word ≡ a → (b : Bool) → ltb 131072 (length word) ≡ b
+        → cond a Fits (cond b (NoCall FileTooLong) (cond (isHex word) Fits (NoCall NotHex))) ≡ Fits → length (bytesOf word) ≤ 65536
+    by true s b t f = omega (arith, bytes-half word, ap length (same-text word (code "-" ∷ []) s))
+    by false s true t f = let z : _≡_ {A = ℕ} 0 1 = cc in absurd (omega arith)
+    by false s false t f = omega (arith, bytes-half word, ltb-false 131072 (length word) t)

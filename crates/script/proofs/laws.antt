@@ -3,3 +3,4 @@ pub mod Laid
 pub mod Parts
 pub mod Numbers
 pub mod Hex
+pub mod Calls

@@ -173,7 +173,7 @@ fn value_of(digits: &[u8]) -> Number
 }
 
 // The number of a word; 0 where it is none.
-pub fn value(word: &[u8]) -> u64
+pub fn value_in(word: &[u8]) -> u64
     ensures { λ r. ⌜ r ≡ valueIn (numberOf (now (word .entry))) ⌝ }
 {
     let number = number_in(word);
@@ -186,30 +186,30 @@ pub fn value(word: &[u8]) -> u64
 
 // A number as an id, as a kind, standing or justified mark, and as a measure. What the type can't hold is its greatest
 // value, which lies outside the range too.
-pub fn id(word: &[u8]) -> u16
+pub fn id_in(word: &[u8]) -> u16
     ensures { λ r. ⌜ r ≡ idOf (now (word .entry)) ⌝ }
 {
-    let x = value(word);
+    let x = value_in(word);
     if x < 65535 {
         return x as u16;
     }
     65535
 }
 
-pub fn code(word: &[u8]) -> u8
+pub fn code_in(word: &[u8]) -> u8
     ensures { λ r. ⌜ r ≡ codeOf (now (word .entry)) ⌝ }
 {
-    let x = value(word);
+    let x = value_in(word);
     if x < 255 {
         return x as u8;
     }
     255
 }
 
-pub fn measure(word: &[u8]) -> u32
+pub fn measure_in(word: &[u8]) -> u32
     ensures { λ r. ⌜ r ≡ measureOf (now (word .entry)) ⌝ }
 {
-    let x = value(word);
+    let x = value_in(word);
     if x < 4294967295 {
         return x as u32;
     }
@@ -217,10 +217,10 @@ pub fn measure(word: &[u8]) -> u32
 }
 
 // A number as the size of a buffer, the greatest where it is above that.
-pub fn size(word: &[u8]) -> usize
+pub fn size_in(word: &[u8]) -> usize
     ensures { λ r. ⌜ r ≡ sizeOf (now (word .entry)) ⌝ }
 {
-    let x = value(word);
+    let x = value_in(word);
     if x < 65536 {
         return x as usize;
     }
@@ -249,7 +249,7 @@ pub fn measures(list: &[u8], into: &mut [u32]) -> usize
             return n;
         }
         let end = part_end(list, at, b',');
-        into[n] = measure(&list[at..end]);
+        into[n] = measure_in(&list[at..end]);
         n += 1;
         at = end + 1;
     }

@@ -1,9 +1,9 @@
 // Answer lines. The first number of each is the paper's number of refusal, 0 for accepted; a line that is no call is
 // answered by a remark. What a call handed back is answered, and its sheet handed on.
-use crate::calls::Remark;
 use dayfile::Reading;
 use dayfile::Written;
 use libc::STDOUT_FILENO;
+use script::calls::Remark;
 use script::hex;
 use sheet::Changed;
 use sheet::Counted;

@@ -2,13 +2,13 @@
 // is replayed, and how the library is held against the second program (reference/survey.py), whose protocol this is.
 // What it prints is tested, not proved.
 mod answers;
-mod calls;
 
-use calls::Call;
-use calls::Judged;
-use calls::Named;
-use calls::Remark;
 use libc::STDIN_FILENO;
+use script::calls;
+use script::calls::Call;
+use script::calls::Judged;
+use script::calls::Named;
+use script::calls::Remark;
 use script::hex;
 use script::words;
 use sheet::Changed;
@@ -59,8 +59,8 @@ fn answer_line(sheet: Sheet, line: &[u8]) -> Sheet {
     let named = calls::call_named(words::word(line, 0));
     match named {
         Named::Known(call) => answer_call(sheet, line, call),
-        Named::NoCall(remark) => {
-            answers::remark(remark);
+        Named::Unknown => {
+            answers::remark(Remark::UnknownCall);
             sheet
         }
     }
@@ -80,16 +80,16 @@ fn answer_call(sheet: Sheet, line: &[u8], call: Call) -> Sheet {
 // Makes a call with the words of its line.
 fn make(sheet: Sheet, line: &[u8], call: Call) -> Sheet {
     match call {
-        Call::Open => answers::changed(Sheet::open(words::measure(words::word(line, 1)))),
+        Call::Open => answers::changed(Sheet::open(words::measure_in(words::word(line, 1)))),
         Call::Enter => answers::changed(enter(sheet, line)),
-        Call::Withdraw => answers::changed(sheet.withdraw(words::id(words::word(line, 1)))),
+        Call::Withdraw => answers::changed(sheet.withdraw(words::id_in(words::word(line, 1)))),
         Call::Mark => answers::changed(mark(sheet, line)),
         Call::Undo => answers::changed(sheet.undo()),
         Call::Redo => answers::changed(sheet.redo()),
         Call::Counts => answers::counted(sheet.counts()),
-        Call::Report => answers::reported(sheet.report(words::code(words::word(line, 1)))),
+        Call::Report => answers::reported(sheet.report(words::code_in(words::word(line, 1)))),
         Call::Write => write(sheet, line, 0),
-        Call::WriteFilled => write(sheet, line, words::code(words::word(line, 4))),
+        Call::WriteFilled => write(sheet, line, words::code_in(words::word(line, 4))),
         Call::Read => read(line),
         Call::Spaces => answers::spaces(sheet),
     }
@@ -97,9 +97,9 @@ fn make(sheet: Sheet, line: &[u8], call: Call) -> Sheet {
 
 // Writes into a buffer of the size that the line says, whose bytes are all `fill`.
 fn write(sheet: Sheet, line: &[u8], fill: u8) -> Sheet {
-    let justified = words::code(words::word(line, 1));
-    let at = words::value(words::word(line, 2)) as usize;
-    let size = words::size(words::word(line, 3));
+    let justified = words::code_in(words::word(line, 1));
+    let at = words::value_in(words::word(line, 2)) as usize;
+    let size = words::size_in(words::word(line, 3));
     let mut buffer = [fill; 65536];
     write_into(sheet, justified, &mut buffer[..size], at)
 }
@@ -116,8 +116,8 @@ fn read(line: &[u8]) -> Sheet {
 }
 
 fn mark(sheet: Sheet, line: &[u8]) -> Changed {
-    let id = words::id(words::word(line, 1));
-    let standing = words::code(words::word(line, 2));
+    let id = words::id_in(words::word(line, 1));
+    let standing = words::code_in(words::word(line, 2));
     sheet.mark(id, standing)
 }
 
@@ -131,11 +131,11 @@ fn enter(sheet: Sheet, line: &[u8]) -> Changed {
 }
 
 fn entry(line: &[u8]) -> Entry {
-    let id = words::id(words::word(line, 1));
-    let within = words::id(words::word(line, 2));
-    let kind = words::code(words::word(line, 3));
-    let standing = words::code(words::word(line, 4));
-    let length = words::measure(words::word(line, 5));
+    let id = words::id_in(words::word(line, 1));
+    let within = words::id_in(words::word(line, 2));
+    let kind = words::code_in(words::word(line, 3));
+    let standing = words::code_in(words::word(line, 4));
+    let length = words::measure_in(words::word(line, 5));
     Entry {
         id,
         within,

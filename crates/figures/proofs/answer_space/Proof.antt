@@ -7,20 +7,20 @@ use Rattle.figures.proofs.answer_space.Tie as tie
 word-requires : tie.Need-word-requires
 word-requires c κs = search needs
 
-code-requires : tie.Need-code-requires
-code-requires c κs = search needs
+code-in-requires : tie.Need-code-in-requires
+code-in-requires c κs = search needs
 
 word-requires-2 : tie.Need-word-requires-2
 word-requires-2 c κs = search needs
 
-measure-requires : tie.Need-measure-requires
-measure-requires c κs = search needs
+measure-in-requires : tie.Need-measure-in-requires
+measure-in-requires c κs = search needs
 
 word-requires-3 : tie.Need-word-requires-3
 word-requires-3 c κs = search needs
 
-measure-requires-2 : tie.Need-measure-requires-2
-measure-requires-2 c κs = search needs
+measure-in-requires-2 : tie.Need-measure-in-requires-2
+measure-in-requires-2 c κs = search needs
 
 word-requires-4 : tie.Need-word-requires-4
 word-requires-4 c κs = search needs
@@ -63,11 +63,11 @@ answer-space-spec =
     tie.close
     (tie.spec
     word-requires
-    code-requires
+    code-in-requires
     word-requires-2
-    measure-requires
+    measure-in-requires
     word-requires-3
-    measure-requires-2
+    measure-in-requires-2
     word-requires-4
     slice-aggregate-measures
     measures-requires

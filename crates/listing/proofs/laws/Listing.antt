@@ -6,6 +6,7 @@ use native.Mathlib.Omega.{arith}
 use borrow.Author.Tests.{lt-ltb, le-ltb, eq-eqb, ne-eqb}
 use lib.ListN.{length, take, replicate, length-append, length-replicate, replicate-append-replicate}
 use lib.Seq.{sets, sets-eq, drop-at}
+use Rattle.script.specs.Text.{ascii}
 use Rattle.sheet.specs.Sheet.{lengthOf, standingCount, placesOf}
 use Rattle.sheet.specs.Calls.{reported}
 use Rattle.sheet.specs.declared.sheet.Sheet.{Sheet}
@@ -13,7 +14,6 @@ use Rattle.sheet.proofs.laws.Report.{given, handed-out}
 use Rattle.dayfile.specs.Reading.{readOf}
 use Rattle.dayfile.specs.declared.reading.Reading.{Reading}
 use Rattle.dayfile.proofs.laws.Reading.{reading-accepted}
-use Rattle.listing.specs.Text.{ascii}
 use Rattle.listing.specs.Lines.{figureLine, spaceLines, refusalLine}
 use Rattle.listing.specs.Listing.{mostBytes, textSize, sheetText, fileText, listed}
 use Rattle.listing.specs.declared.listing.Listing.{Listing}

@@ -114,6 +114,19 @@ parts-one m (x ∷ xs) h =
     → cond b ([] ∷ partsOf m xs) (onFirst x (partsOf m xs)) ≡ cond b [] (x ∷ first m xs) ∷ [])
     [ true ↦ λ g. absurd (omega arith) | false ↦ λ g. ap (onFirst x) (parts-one m xs (omega arith)) ]) h
 
+-- ---- how many parts there are
+
+same-number : (x : ℕ) (parts : List (List ℕ)) → length (onFirst x parts) ≡ length parts
+same-number x [] = refl
+same-number x (part ∷ parts) = refl
+
+-- one part more than marks
+pub parts-counted : (m : ℕ) (xs : List ℕ) → length (partsOf m xs) ≡ suc (marksIn m xs)
+parts-counted m [] = refl
+parts-counted m (x ∷ xs) =
+    elim (eqb x m) as (λ b. length (cond b ([] ∷ partsOf m xs) (onFirst x (partsOf m xs))) ≡ suc (cond b 1 0 + marksIn m xs))
+    [ true ↦ omega (arith, parts-counted m xs) | false ↦ omega (arith, same-number x (partsOf m xs), parts-counted m xs) ]
+
 -- ---- the part at a place
 
 part-first : (m : ℕ) (xs : List ℕ) → getD (partsOf m xs) 0 [] ≡ first m xs

@@ -9,26 +9,26 @@ use Rattle.survey.proofs.write.Tie as tie
 word-requires : tie.Need-word-requires
 word-requires c κs = search needs
 
-code-requires : tie.Need-code-requires
-code-requires c κs = search needs
+code-in-requires : tie.Need-code-in-requires
+code-in-requires c κs = search needs
 
 word-requires-2 : tie.Need-word-requires-2
 word-requires-2 c κs = search needs
 
-value-requires : tie.Need-value-requires
-value-requires c κs = search needs
+value-in-requires : tie.Need-value-in-requires
+value-in-requires c κs = search needs
 
 word-requires-3 : tie.Need-word-requires-3
 word-requires-3 c κs = search needs
 
-size-requires : tie.Need-size-requires
-size-requires c κs = search needs
+size-in-requires : tie.Need-size-in-requires
+size-in-requires c κs = search needs
 
 array-borrow-prefix-buffer : tie.Need-array-borrow-prefix-buffer
 array-borrow-prefix-buffer c = search needs
 
 slice-aggregate-write-into : tie.Need-slice-aggregate-write-into
-slice-aggregate-write-into c = sym (length-take-le _ _ (omega (arith, c .before .size .ensures)))
+slice-aggregate-write-into c = sym (length-take-le _ _ (omega (arith, c .before .size-in .ensures)))
 
 write-into-requires : tie.Need-write-into-requires
 write-into-requires c κs = search needs
@@ -41,11 +41,11 @@ write-spec =
     tie.close
     (tie.spec
     word-requires
-    code-requires
+    code-in-requires
     word-requires-2
-    value-requires
+    value-in-requires
     word-requires-3
-    size-requires
+    size-in-requires
     array-borrow-prefix-buffer
     slice-aggregate-write-into
     write-into-requires

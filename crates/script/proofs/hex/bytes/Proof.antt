@@ -1,9 +1,9 @@
 -- `hex::bytes` meets its contract. The loop's invariant: n bytes are laid, and those of the digits ahead are still to lay.
 use Prim.Native.Nat.{ℕ, _+_, _*_, _-_, _≤_}
 use mathlib.Core.Path.{_≡_, refl, ap, _∙_}
-use mathlib.Core.List.{List, _∷_}
+use mathlib.Core.List.{_∷_}
 use native.Mathlib.Omega.{arith}
-use lib.ListN.{length, drop, getD, set, length-set, length-drop}
+use lib.ListN.{length, drop, getD, length-set, length-drop}
 use Rattle.script.specs.Hex.{digitValue, bytesOf}
 use Rattle.script.proofs.laws.Laid.{Laying, none-laid, one-more, all-laid, array-full}
 use Rattle.script.proofs.laws.Hex.{byte-ahead, none-ahead}

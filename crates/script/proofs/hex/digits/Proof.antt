@@ -1,10 +1,10 @@
 -- `hex::digits` meets its contract. The loop's invariant: the digits of i bytes are laid, and those of the bytes that fit are still to lay.
-use Prim.Native.Nat.{ℕ, _+_, _*_, _-_, _/_, _%_, _≤_}
-use mathlib.Core.Path.{_≡_, refl, sym, ap, _∙_}
-use mathlib.Core.List.{List, _∷_}
+use Prim.Native.Nat.{_+_, _*_, _-_, _/_, _≤_}
+use mathlib.Core.Path.{_≡_, refl, _∙_}
+use mathlib.Core.List.{_∷_}
 use native.Mathlib.Omega.{arith}
-use lib.ListN.{length, take, drop, getD, set, length-set}
-use Rattle.script.specs.Hex.{hexDigit, hexOf, hexFitting}
+use lib.ListN.{length, take, drop, set, length-set}
+use Rattle.script.specs.Hex.{hexOf, hexFitting}
 use Rattle.script.proofs.laws.Laid.{Laying, none-laid, one-more, all-laid}
 use Rattle.script.proofs.laws.Hex.{digits-ahead, digits-ended}
 use borrow.Author.Needs.{needs}

@@ -1,10 +1,10 @@
 -- `words::measures` meets its contract. The loop's invariant: n measures are laid, and those of the parts ahead are still to lay.
-use Prim.Native.Nat.{ℕ, _≤_, _+_, _-_}
+use Prim.Native.Nat.{ℕ, _+_, _-_}
 use mathlib.Core.Path.{_≡_, refl, sym, ap, _∙_}
 use mathlib.Core.Bool.{true, false}
 use mathlib.Core.List.{List, [], _∷_, map}
-use lib.ListN.{length, take, drop, set, length-set}
-use Rattle.script.specs.Words.{partsOf, partEnd, measureOf, isEmptyList, measuresOf}
+use lib.ListN.{length, length-set}
+use Rattle.script.specs.Words.{measureOf, isEmptyList, measuresOf}
 use Rattle.script.proofs.laws.Laid.{Laying, none-laid, one-more, all-laid, array-full}
 use Rattle.script.proofs.laws.Parts.{part-ends, partsFrom, parts-begun, parts-ended, parts-ahead}
 use borrow.Author.Needs.{needs}
@@ -52,26 +52,26 @@ returns-2 c =
 part-end-requires : tie.Need-part-end-requires Inv-loop μ-loop
 part-end-requires c κs = search needs
 
-sub-measure : tie.Need-sub-measure Inv-loop μ-loop
-sub-measure c =
+sub-measure-in : tie.Need-sub-measure-in Inv-loop μ-loop
+sub-measure-in c =
     let l = c .before .before .before in
     let ends = part-ends 44 (l .before .before .before .before .before .args .list .now) (l .loop .at) (c .part-end .ensures) (omega arith) in
     search needs
 
-part-measure-start : tie.Need-part-measure-start Inv-loop μ-loop
-part-measure-start c =
+part-measure-in-start : tie.Need-part-measure-in-start Inv-loop μ-loop
+part-measure-in-start c =
     let l = c .before .before .before in
     let ends = part-ends 44 (l .before .before .before .before .before .args .list .now) (l .loop .at) (c .part-end .ensures) (omega arith) in
     search needs
 
-part-measure-end : tie.Need-part-measure-end Inv-loop μ-loop
-part-measure-end c =
+part-measure-in-end : tie.Need-part-measure-in-end Inv-loop μ-loop
+part-measure-in-end c =
     let l = c .before .before .before in
     let ends = part-ends 44 (l .before .before .before .before .before .args .list .now) (l .loop .at) (c .part-end .ensures) (omega arith) in
     search needs
 
-measure-requires : tie.Need-measure-requires Inv-loop μ-loop
-measure-requires c κs = search needs
+measure-in-requires : tie.Need-measure-in-requires Inv-loop μ-loop
+measure-in-requires c κs = search needs
 
 mul-into : tie.Need-mul-into Inv-loop μ-loop
 mul-into c = search needs
@@ -96,9 +96,9 @@ loop-again c =
     let l = c .before .before .before .before .before in
     let list = l .before .before .before .before .before .args .list .now in
     let end = c .before .before .part-end in
-    let measure = c .measure .result in
+    let measure = c .measure-in .result in
     let left = map measureOf (partsFrom 44 (end .result + 1) list) in
-    let next = ap (map measureOf) (parts-ahead 44 list (l .loop .at) (end .ensures) (omega arith)) ∙ ap (λ (x : ℕ). x ∷ left) (sym (c .measure .ensures)) in
+    let next = ap (map measureOf) (parts-ahead 44 list (l .loop .at) (end .ensures) (omega arith)) ∙ ap (λ (x : ℕ). x ∷ left) (sym (c .measure-in .ensures)) in
     (length-set (l .loop .into) (l .loop .n) measure ∙ l .loop .inv .0, one-more (l .loop .inv .1) measure left next (omega arith))
 
 same-length-2 : tie.Need-same-length-2 Inv-loop μ-loop
@@ -121,10 +121,10 @@ measures-spec =
     same-length
     returns-2
     part-end-requires
-    sub-measure
-    part-measure-start
-    part-measure-end
-    measure-requires
+    sub-measure-in
+    part-measure-in-start
+    part-measure-in-end
+    measure-in-requires
     mul-into
     slice-write-into
     add-n
