@@ -2,6 +2,7 @@
 pub mod Cases
 pub mod Standing
 pub mod Row
+pub mod Sums
 pub mod Found
 pub mod Enclosure
 pub mod Places

@@ -1,5 +1,5 @@
 -- What the functions inside the crate answer one another. No promise of a public function cites anything here.
-use Prim.Native.Nat.{ℕ, zero, suc, _+_, _<_}
+use Prim.Native.Nat.{ℕ, zero, suc, _+_, _*_, _^_, _≤_, _<_}
 use mathlib.Core.Path.{_≡_}
 use mathlib.Core.Bool.{Bool, true, false, cond, not, _&&_, _||_}
 use mathlib.Core.List.{List, [], _∷_}
@@ -12,11 +12,33 @@ use Rattle.spaces.specs.Row.{placeOf, isSome, sumOf}
 use Rattle.spaces.specs.Enclosure.{allPlain}
 use Rattle.spaces.specs.Rules.{inHatchway}
 use Rattle.spaces.specs.declared.space.Space.{Space}
-use Rattle.spaces.specs.declared.enclosure.Above.{Above}
 use Rattle.spaces.specs.declared.row.Found.{Found}
 use Rattle.spaces.specs.declared.row.Found.the-variants.{At, Nothing}
+use Rattle.spaces.specs.declared.sums.Amount.{Amount}
+use Rattle.spaces.specs.declared.sums.Amount.the-variants.{Inside, Lengths, Hull, Hatchways, Exempt, Ballast, Deducted}
+use Rattle.spaces.specs.declared.sums.Totals.{Totals}
+use Rattle.spaces.specs.declared.enclosure.Above.{Above}
 use Rattle.spaces.specs.declared.rules.Around.{Around}
-use Rattle.spaces.specs.declared.sums.Amount.the-variants.{Inside, Lengths}
+
+-- ---- searches and sums
+
+-- a search as the code hands it on, read back
+abbrev pub searched : Found → Option Space
+searched Nothing = none
+searched (At z) = some z
+
+-- a number that is a sum over the spaces, as small as 200 of them allow
+abbrev pub IsSum : Amount → List Space → ℕ → Type 0
+IsSum which xs n = (n ≡ sumOf which xs) × (n ≤ 200 * 2 ^ 32)
+
+-- and those that a report works with
+pub record AreTotals (xs : List Space) (sums : Totals) : Type 0 where
+  pub lengths : IsSum Lengths xs (sums .lengths)
+  pub hull : IsSum Hull xs (sums .hull)
+  pub hatchways : IsSum Hatchways xs (sums .hatchways)
+  pub exempt : IsSum Exempt xs (sums .exempt)
+  pub ballast : IsSum Ballast xs (sums .ballast)
+  pub deducted : IsSum Deducted xs (sums .deducted)
 
 -- ---- walks and places
 
@@ -71,11 +93,6 @@ abbrev pub Indexed : List ℕ → List ℕ → Type 0
 Indexed ids index = (id : ℕ) → id < length index → getD index id 0 ≡ placeIn id ids
 
 -- ---- an entry judged by what is around it
-
--- a search as the code answers it
-abbrev pub inFound : Found → Option Space
-inFound (At z) = some z
-inFound Nothing = none
 
 -- what 9 adds an entry to
 abbrev pub besideOf : List Space → Space → ℕ

@@ -10,12 +10,13 @@ use crate::space::ROOM;
 use crate::space::Space;
 ghost use mathlib.Core.Path.{_≡_};
 ghost use mathlib.Core.Bool.{cond, not, _&&_};
+ghost use mathlib.Core.List.{_∷_};
 ghost use Prim.Native.Nat.{_≤_, _<_};
 ghost use lib.ListN.{length, take};
 ghost use Rattle.spaces.specs.Space.{isRoom, isPlain};
 ghost use Rattle.spaces.specs.Row.{foundAs};
-ghost use Rattle.spaces.specs.Enclosure.{enclosing as enclosingIn, upward, allPlain, below};
-ghost use Rattle.spaces.specs.Handed.{walked, pastOf, climbed, EnclosingPlaces, leadsTo, idsOf, placeIn, Indexed};
+ghost use Rattle.spaces.specs.Enclosure.{enclosing as enclosingIn, onward, upward, allPlain, below};
+ghost use Rattle.spaces.specs.Handed.{searched, walked, pastOf, climbed, EnclosingPlaces, leadsTo, idsOf, placeIn, Indexed};
 
 // What a walk upward met: how many spaces, and whether all are plain.
 pub struct Above {
@@ -57,6 +58,27 @@ pub(crate) fn walk(spaces: [Space; 200], count: usize, x: Space, left: usize) ->
             plain: true,
         },
     }
+}
+
+// What is above a space whose enclosing space has been looked up: the row of spaces is handed on only where there is one.
+pub(crate) fn all_above(spaces: [Space; 200], count: usize, found: Found) -> Above
+    ensures { λ r. ⌜ r ≡ walked (onward (searched found) (λ z. upward 7 (take count spaces) z)) ⌝ }
+{
+    match found {
+        Found::At(z) => from_enclosing(spaces, count, z),
+        Found::Nothing => Above {
+            levels: 0,
+            plain: true,
+        },
+    }
+}
+
+// The walk that meets the enclosing space z first.
+fn from_enclosing(spaces: [Space; 200], count: usize, z: Space) -> Above
+    ensures { λ r. ⌜ r ≡ walked (z ∷ upward 7 (take count spaces) z) ⌝ }
+{
+    let further = walk(spaces, count, z, LEVELS - 1);
+    past(z.standing, further)
 }
 
 // A walk that goes past a space of a standing first.

@@ -1,7 +1,6 @@
 // Gross and net ("Gross and net"), in hundredths of a ton.
 use crate::space::Space;
-use crate::sums::Amount;
-use crate::sums::sum;
+use crate::sums::total_up;
 use measure::allowances::ballast_over;
 use measure::allowances::hatchway_excess;
 ghost use mathlib.Core.Path.{_≡_};
@@ -20,16 +19,13 @@ pub struct Reckoning {
 pub fn reckon(spaces: [Space; 200], count: usize) -> Reckoning
     ensures { λ r. ⌜ r ≡ reckoned (take count spaces) ⌝ }
 {
-    let lengths = sum(spaces, count, Amount::Lengths);
-    let hull = sum(spaces, count, Amount::Hull);
-    let exempt = sum(spaces, count, Amount::Exempt);
-    let ballast = sum(spaces, count, Amount::Ballast);
-    let hatchways = sum(spaces, count, Amount::Hatchways);
-    let gross = gross_over(less(hull, exempt + ballast), hatchways);
-    let net = less(gross, sum(spaces, count, Amount::Deducted));
-    let unjustified = ballast_over(ballast, gross_over(less(hull, exempt), hatchways));
+    let sums = total_up(spaces, count);
+    let gross = gross_over(less(sums.hull, sums.exempt + sums.ballast), sums.hatchways);
+    let net = less(gross, sums.deducted);
+    let with_ballast = gross_over(less(sums.hull, sums.exempt), sums.hatchways);
+    let unjustified = ballast_over(sums.ballast, with_ballast);
     Reckoning {
-        lengths,
+        lengths: sums.lengths,
         gross,
         net,
         unjustified,

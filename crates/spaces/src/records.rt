@@ -27,7 +27,7 @@ ghost use Prim.Native.Nat.{_*_, _^_, _≤_};
 ghost use lib.ListN.{take};
 ghost use Rattle.spaces.specs.Space.{isRoom};
 ghost use Rattle.spaces.specs.Records.{misrecorded as misrecordedOf, firstRefused};
-ghost use Rattle.spaces.specs.Handed.{inFound, judgedNumber};
+ghost use Rattle.spaces.specs.Handed.{searched, judgedNumber};
 
 // The number with which a record was refused and its position from 1; 0 and 0 where none was.
 pub struct RefusedRecord {
@@ -58,7 +58,7 @@ fn misrecorded(x: Space) -> bool
 // The number with which a record is refused, or 0, by its enclosing space and what else is around it.
 fn record_number(x: Space, tonnage_length: u32, found: Found, around: Around) -> u8
     requires { ⌜ (around .beside ≤ 200 * 2 ^ 32) × (around .levels ≤ 8) ⌝ }
-    ensures { λ r. ⌜ r ≡ cond (misrecordedOf x) 2 (judgedNumber «tonnage_length» x (inFound found) around) ⌝ }
+    ensures { λ r. ⌜ r ≡ cond (misrecordedOf x) 2 (judgedNumber «tonnage_length» x (searched found) around) ⌝ }
 {
     if misrecorded(x) {
         return 2;
@@ -68,7 +68,7 @@ fn record_number(x: Space, tonnage_length: u32, found: Found, around: Around) ->
 
 // The space z, where it stands before.
 fn found_if(before: bool, z: Space) -> Found
-    ensures { λ r. ⌜ inFound r ≡ cond before (some z) none ⌝ }
+    ensures { λ r. ⌜ searched r ≡ cond before (some z) none ⌝ }
 {
     if before {
         return Found::At(z);

@@ -1,6 +1,7 @@
 // When an entry, a withdrawal and a mark are refused on the spaces that stand ("Numbers of refusal", 4 to 11): a
 // function for each test, in the table's order.
 use crate::enclosure::LEVELS;
+use crate::enclosure::all_above;
 use crate::enclosure::enclosing;
 use crate::enclosure::plain_below;
 use crate::enclosure::walk;
@@ -24,7 +25,7 @@ ghost use Rattle.spaces.specs.Space.{isRoom, isPlain, mayTake};
 ghost use Rattle.spaces.specs.Row.{isSome};
 ghost use Rattle.spaces.specs.Enclosure.{above, allPlain, below};
 ghost use Rattle.spaces.specs.Rules.{inHatchway, entryNumber, enclosesRoom, withdrawNumber, markNumber};
-ghost use Rattle.spaces.specs.Handed.{inFound, besideOf, overfullBy, judgedNumber};
+ghost use Rattle.spaces.specs.Handed.{searched, besideOf, overfullBy, judgedNumber};
 
 // Ids go from 1 to 9,999.
 const GREATEST_ID: u16 = 9_999;
@@ -59,7 +60,7 @@ fn id_refused(x: Space, taken: bool) -> bool
 
 // 5: a room's enclosing id isn't standing.
 fn unhoused(x: Space, found: Found) -> bool
-    ensures { λ r. ⌜ r ≡ (isRoom x && not (isSome (inFound found))) ⌝ }
+    ensures { λ r. ⌜ r ≡ (isRoom x && not (isSome (searched found))) ⌝ }
 {
     match found {
         Found::At(_) => false,
@@ -69,7 +70,7 @@ fn unhoused(x: Space, found: Found) -> bool
 
 // 6: kind can't take this standing, or the enclosing space is a hatchway.
 fn misplaced(x: Space, found: Found) -> bool
-    ensures { λ r. ⌜ r ≡ (not (mayTake (x .kind) (x .standing)) || inHatchway (inFound found)) ⌝ }
+    ensures { λ r. ⌜ r ≡ (not (mayTake (x .kind) (x .standing)) || inHatchway (searched found)) ⌝ }
 {
     if !may_take(x.kind, x.standing) {
         return true;
@@ -93,7 +94,7 @@ fn off_twice(x: Space, plain_above: bool) -> bool
 // 9: rooms would pass the enclosing tonnage, or U lengths the tonnage length.
 fn overfull(x: Space, tonnage_length: u32, found: Found, beside: u64) -> bool
     requires { ⌜ beside ≤ 200 * 2 ^ 32 ⌝ }
-    ensures { λ r. ⌜ r ≡ overfullBy «tonnage_length» x (inFound found) beside ⌝ }
+    ensures { λ r. ⌜ r ≡ overfullBy «tonnage_length» x (searched found) beside ⌝ }
 {
     match found {
         Found::At(z) => (z.tonnage as u64) < beside + x.tonnage as u64,
@@ -109,7 +110,7 @@ fn overfull(x: Space, tonnage_length: u32, found: Found, beside: u64) -> bool
 // The number with which an entry of x is refused, or 0, by its enclosing space and what else is around it.
 pub(crate) fn judged(x: Space, tonnage_length: u32, found: Found, around: Around) -> u8
     requires { ⌜ (around .beside ≤ 200 * 2 ^ 32) × (around .levels ≤ 8) ⌝ }
-    ensures { λ r. ⌜ r ≡ judgedNumber «tonnage_length» x (inFound found) around ⌝ }
+    ensures { λ r. ⌜ r ≡ judgedNumber «tonnage_length» x (searched found) around ⌝ }
 {
     if id_refused(x, around.taken) {
         return 4;
@@ -153,7 +154,7 @@ pub fn entry_number(spaces: [Space; 200], count: usize, tonnage_length: u32, x: 
     ensures { λ r. ⌜ r ≡ entryNumber «tonnage_length» (take count spaces) x ⌝ }
 {
     let found = enclosing(spaces, count, x);
-    let up = walk(spaces, count, x, LEVELS);
+    let up = all_above(spaces, count, found);
     let around = Around {
         taken: stands(spaces, count, x.id),
         levels: up.levels,

@@ -1,4 +1,4 @@
-// The sums that the paper takes over the standing spaces: one loop, and what a space adds to each.
+// The sums that the paper takes over the standing spaces: one by one, those of a report at once, and what a space adds to each.
 use crate::row::used;
 use crate::space::BETWEEN_DECK;
 use crate::space::HATCHWAY;
@@ -8,11 +8,12 @@ use crate::space::Space;
 use crate::space::UNDER_DECK;
 ghost use mathlib.Core.Path.{_≡_};
 ghost use mathlib.Core.Bool.{_&&_};
-ghost use Prim.Native.Nat.{_*_, _≤_, _<_, _^_};
+ghost use Prim.Native.Nat.{_<_, _^_};
 ghost use lib.Dec.{eqb};
 ghost use lib.ListN.{take};
 ghost use Rattle.spaces.specs.Space.{isRoom, isHull};
-ghost use Rattle.spaces.specs.Row.{only as onlyOf, amountOf, sumOf};
+ghost use Rattle.spaces.specs.Row.{only as onlyOf, amountOf};
+ghost use Rattle.spaces.specs.Handed.{IsSum, AreTotals};
 
 pub enum Amount {
     // The tonnages of the rooms directly inside the space with an id, and their number.
@@ -26,6 +27,16 @@ pub enum Amount {
     Exempt,
     Ballast,
     Deducted,
+}
+
+// The sums that a report works with.
+pub struct Totals {
+    pub lengths: u64,
+    pub hull: u64,
+    pub hatchways: u64,
+    pub exempt: u64,
+    pub ballast: u64,
+    pub deducted: u64,
 }
 
 fn only(test: bool, n: u32) -> u64
@@ -72,7 +83,7 @@ pub(crate) fn share(which: Amount, x: Space) -> u64
 }
 
 pub(crate) fn sum(spaces: [Space; 200], count: usize, which: Amount) -> u64
-    ensures { λ r. ⌜ (r ≡ sumOf which (take count spaces)) × (r ≤ 200 * 2 ^ 32) ⌝ }
+    ensures { λ r. ⌜ IsSum which (take count spaces) r ⌝ }
 {
     let n = used(count);
     let mut total: u64 = 0;
@@ -83,4 +94,36 @@ pub(crate) fn sum(spaces: [Space; 200], count: usize, which: Amount) -> u64
         i += 1;
     }
     total
+}
+
+// The sums of a report, in one loop: each call hands on all the places.
+pub(crate) fn total_up(spaces: [Space; 200], count: usize) -> Totals
+    ensures { λ r. ⌜ AreTotals (take count spaces) r ⌝ }
+{
+    let n = used(count);
+    let mut lengths: u64 = 0;
+    let mut hull: u64 = 0;
+    let mut hatchways: u64 = 0;
+    let mut exempt: u64 = 0;
+    let mut ballast: u64 = 0;
+    let mut deducted: u64 = 0;
+    let mut i = 0;
+    while i < n {
+        let x = spaces[i];
+        lengths += share(Amount::Lengths, x);
+        hull += share(Amount::Hull, x);
+        hatchways += share(Amount::Hatchways, x);
+        exempt += share(Amount::Exempt, x);
+        ballast += share(Amount::Ballast, x);
+        deducted += share(Amount::Deducted, x);
+        i += 1;
+    }
+    Totals {
+        lengths,
+        hull,
+        hatchways,
+        exempt,
+        ballast,
+        deducted,
+    }
 }

@@ -9,19 +9,14 @@ use borrow.Author.Tests.{eqb-true, ne-eqb}
 use lib.Dec.{eqb, ltb, leb}
 use lib.ListN.{length}
 use Rattle.spaces.specs.Space.{isUnderDeck, isRoom, isPlain, mayTake}
-use Rattle.spaces.specs.Row.{find, isSome, stands, sumOf, foundAs}
+use Rattle.spaces.specs.Row.{find, isSome, stands, sumOf}
 use Rattle.spaces.specs.Enclosure.{enclosing, above, allPlain}
 use Rattle.spaces.specs.Rules.{idRefused, unhoused, inHatchway, misplaced, tooDeep, offTwice, overfull, noPlace, entryNumber}
-use Rattle.spaces.specs.Handed.{inFound, besideOf, overfullBy, judgedNumber}
+use Rattle.spaces.specs.Handed.{besideOf, overfullBy, judgedNumber}
 use Rattle.spaces.specs.declared.space.Space.{Space}
-use Rattle.spaces.specs.declared.row.Found.{Found}
 use Rattle.spaces.specs.declared.rules.Around.{Around}
 use Rattle.spaces.specs.declared.sums.Amount.the-variants.{Inside, Lengths}
 use Rattle.spaces.proofs.laws.Cases.{by-test, by-option, none-not-some}
-
-pub in-found : (o : Option Space) → inFound (foundAs o) ≡ o
-in-found none = refl
-in-found (some z) = refl
 
 -- a room is no U, and only a room is enclosed
 no-under-deck : (x : Space) → isRoom x ≡ true → isUnderDeck x ≡ false

@@ -13,7 +13,7 @@ use lib.Seq.{getD-take, length-take-le}
 use Rattle.spaces.specs.Space.{emptySpace, isRoom}
 use Rattle.spaces.specs.Row.{placeOf}
 use Rattle.spaces.specs.Records.{misrecorded, recordNumber, firstRefused}
-use Rattle.spaces.specs.Handed.{inFound, placeIn, judgedNumber}
+use Rattle.spaces.specs.Handed.{searched, placeIn, judgedNumber}
 use Rattle.spaces.specs.declared.space.Space.{Space}
 use Rattle.spaces.specs.declared.enclosure.Above.{Above}
 use Rattle.spaces.specs.declared.rules.Around.{Around}
@@ -188,11 +188,11 @@ number-is c =
     record { taken = ltb (c .before .before .before .place-by .result) i; levels = up .result .levels; plain = up .result .plain; beside = c .before .before .beside .result; full = false } in
     let place = c .before .before .before .place-by .ensures ∙ ap (λ (ids : List ℕ). placeIn (x .id) (take n ids)) (io .ids-of .ensures) ∙ place-first (a .t1) n (omega arith) (x .id) ∙ ap (λ (y : Space). placeOf (y .id) xs) same in
     c .record-number .ensures
-    ∙ ap (λ (y : Space). cond (misrecorded y) 2 (judgedNumber (a .tonnage-length) y (inFound (c .before .found-if .result)) around)) same
+    ∙ ap (λ (y : Space). cond (misrecorded y) 2 (judgedNumber (a .tonnage-length) y (searched (c .before .found-if .result)) around)) same
     ∙ record-number-is xs i (omega (arith, size, before-last)) (omega (arith, size)) places (st .standings-of .result) (l .loop .inside) (l .loop .lengths)
     (ep .enclosing-places .ensures)
     (λ p h. ap (λ (row : List ℕ). getD row p 0) (st .standings-of .ensures) ∙ standing-there (a .t1) n p h)
-    (l .loop .inv .2) (inFound (c .before .found-if .result)) around
+    (l .loop .inv .2) (searched (c .before .found-if .result)) around
     record {
       enclosed = c .before .found-if .ensures ∙ ap (λ (y : Space). cond (ltb home i) (some y) none) z;
       taken = ap (λ (p : ℕ). ltb p i) place;

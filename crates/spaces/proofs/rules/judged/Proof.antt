@@ -7,7 +7,7 @@ use lib.Dec.{ltb}
 use Rattle.spaces.specs.Space.{isRoom, isPlain, mayTake}
 use Rattle.spaces.specs.Row.{isSome}
 use Rattle.spaces.specs.Rules.{inHatchway}
-use Rattle.spaces.specs.Handed.{inFound, overfullBy, judgedNumber}
+use Rattle.spaces.specs.Handed.{searched, overfullBy, judgedNumber}
 use native.Mathlib.Omega.{arith}
 use borrow.Author.Needs.{needs}
 use Rattle.spaces.proofs.rules.judged.Statement.{statement}
@@ -31,7 +31,7 @@ returns-2 : tie.Need-returns-2
 unfolding judgedNumber
 returns-2 c = simp (free (c .before .before), sym (c .before .unhoused .ensures) ∙ c .if2 .taken)
 
-housed : (c : tie.Else2) → (let s = c .before .before .before .before .args in (isRoom (s .x) && not (isSome (inFound (s .found)))) ≡ false)
+housed : (c : tie.Else2) → (let s = c .before .before .before .before .args in (isRoom (s .x) && not (isSome (searched (s .found)))) ≡ false)
 housed c = sym (c .before .unhoused .ensures) ∙ c .if2 .left
 
 misplaced-requires : tie.Need-misplaced-requires
@@ -43,7 +43,7 @@ returns-3 c =
     let h = c .before .before in
     simp (free (h .before .before), housed h, sym (c .before .misplaced .ensures) ∙ c .if3 .taken)
 
-placed : (c : tie.Else3) → (let s = c .before .before .before .before .before .before .args in (not (mayTake (s .x .kind) (s .x .standing)) || inHatchway (inFound (s .found))) ≡ false)
+placed : (c : tie.Else3) → (let s = c .before .before .before .before .before .before .args in (not (mayTake (s .x .kind) (s .x .standing)) || inHatchway (searched (s .found))) ≡ false)
 placed c = sym (c .before .misplaced .ensures) ∙ c .if3 .left
 
 add-if4 : tie.Need-add-if4
@@ -85,7 +85,7 @@ returns-6 c =
     let h = p .before .before in
     simp (free (h .before .before), housed h, placed p, shallow d, once o, sym (c .before .overfull .ensures) ∙ c .if6 .taken)
 
-fits : (c : tie.Else6) → (let s = c .before .before .before .before .before .before .before .before .before .before .before .before .args in overfullBy (s .tonnage-length) (s .x) (inFound (s .found)) (s .around .beside) ≡ false)
+fits : (c : tie.Else6) → (let s = c .before .before .before .before .before .before .before .before .before .before .before .before .args in overfullBy (s .tonnage-length) (s .x) (searched (s .found)) (s .around .beside) ≡ false)
 fits c = sym (c .before .overfull .ensures) ∙ c .if6 .left
 
 returns-7 : tie.Need-returns-7

@@ -1,18 +1,16 @@
 -- `sums::sum` meets its contract. The loop's invariant: the sum so far and what is left to sum are the whole.
-use Prim.Native.Nat.{_≤_, _+_, _*_, _-_, _^_}
-use mathlib.Core.Path.{_≡_, ap}
-use native.Mathlib.Nat.{zero-add, min-le-right}
-use lib.ListN.{length, take, drop}
-use Rattle.spaces.specs.Row.{sumOf}
-use Rattle.spaces.proofs.laws.Row.{standing-step, standing-end}
+use Prim.Native.Nat.{_≤_, _-_}
+use native.Mathlib.Nat.{min-le-right}
+use mathlib.Core.Path.{_≡_}
+use lib.ListN.{length, take}
+use Rattle.spaces.proofs.laws.Sums.{SoFar, none-yet, one-more, all-summed}
 use borrow.Author.Needs.{needs}
 use native.Mathlib.Omega.{arith}
 use Rattle.spaces.proofs.sums.sum.Statement.{statement}
 use Rattle.spaces.proofs.sums.sum.Tie as tie
 
 abbrev Inv-loop : tie.InvT-loop
-Inv-loop count which spaces n total₀ i₀ total i =
-    (i ≤ n) × (total + sumOf which (drop i (take count spaces)) ≡ sumOf which (take count spaces)) × (total ≤ 2 ^ 32 * i)
+Inv-loop count which spaces n total₀ i₀ total i = (i ≤ n) × SoFar which (take count spaces) i total
 
 abbrev μ-loop : tie.MeasureT-loop
 μ-loop count which spaces n total₀ i₀ total i = n - i
@@ -21,7 +19,7 @@ used-requires : tie.Need-used-requires Inv-loop μ-loop
 used-requires c κs = search needs
 
 loop-holds : tie.Need-loop-holds Inv-loop μ-loop
-loop-holds c = (omega arith, zero-add _, omega arith)
+loop-holds c = (omega arith, none-yet _ _)
 
 mul-x : tie.Need-mul-x Inv-loop μ-loop
 mul-x c = omega arith
@@ -32,12 +30,10 @@ array-copy-out-x c = omega arith
 share-requires : tie.Need-share-requires Inv-loop μ-loop
 share-requires c κs = search needs
 
--- no more than 200 places are used
-bound : (c : tie.After-share Inv-loop μ-loop) → c .before .before .before .before .used .result ≤ 200
-bound c = omega (arith, min-le-right (c .before .before .before .before .before .args .count) 200)
-
 add-total : tie.Need-add-total Inv-loop μ-loop
-add-total c = omega (arith, bound c)
+add-total c =
+    let l = c .before .before .before in
+    omega (arith, l .loop .inv .1 .small, min-le-right (l .before .before .args .count) 200)
 
 add-i : tie.Need-add-i Inv-loop μ-loop
 add-i c = omega arith
@@ -50,17 +46,14 @@ loop-again c =
     let l = c .before .before .before in
     let s = l .before .before in
     let full : length (s .args .t1) ≡ 200 = search needs in
-    let st = ap (sumOf (s .args .which)) (standing-step (s .args .t1) (s .args .count) full (l .loop .i) (omega arith)) in
-    (omega arith, omega arith, omega arith)
+    (omega arith, one-more (s .args .which) (s .args .t1) (s .args .count) full (omega arith) (c .share .ensures) (l .loop .inv .1))
 
 returns : tie.Need-returns Inv-loop μ-loop
 returns c =
     let l = c .before in
     let s = l .before .before in
     let full : length (s .args .t1) ≡ 200 = search needs in
-    let z = ap (sumOf (s .args .which)) (standing-end (s .args .t1) (s .args .count) full (l .loop .i) (omega arith)) in
-    let m = min-le-right (s .args .count) 200 in
-    (omega arith, omega arith)
+    all-summed (s .args .which) (s .args .t1) (s .args .count) full (omega arith) (omega arith) (l .loop .inv .1)
 
 pub sum-spec : {M : Type 1} → statement M
 sum-spec =
