@@ -7,7 +7,6 @@ use measure::ranges::tonnage_length_fits;
 use measure::units::Hundredths;
 use spaces::gross::reckon;
 use spaces::row::place_of;
-use spaces::row::space_with;
 use spaces::rules::entry_number;
 use spaces::rules::mark_number;
 use spaces::rules::withdraw_number;
@@ -147,7 +146,9 @@ impl Sheet {
                 sheet: self,
             };
         }
-        let change = Change::Withdrawn(place_of(spaces, count, id), space_with(spaces, count, id));
+        let place = place_of(spaces, count, id);
+        let x = spaces[place];
+        let change = Change::Withdrawn(place, x);
         Changed {
             number: 0,
             sheet: self.made(change).noted(change),
@@ -179,8 +180,9 @@ impl Sheet {
                 sheet: self,
             };
         }
-        let before = space_with(spaces, count, id);
-        let change = Change::Marked(place_of(spaces, count, id), before.standing, standing);
+        let place = place_of(spaces, count, id);
+        let before = spaces[place];
+        let change = Change::Marked(place, before.standing, standing);
         Changed {
             number: 0,
             sheet: self.made(change).noted(change),
@@ -205,7 +207,8 @@ impl Sheet {
             };
         }
         let at = n - 1;
-        let latest = self.changes[at];
+        let changes = self.changes;
+        let latest = changes[at];
         let change = latest.change();
         let mut next = self.taken_back(change);
         next.undoable = at;
@@ -234,7 +237,8 @@ impl Sheet {
             };
         }
         let at = self.undoable;
-        let last = self.changes[at];
+        let changes = self.changes;
+        let last = changes[at];
         let change = last.change();
         let mut next = self.made(change);
         next.undoable = at + 1;

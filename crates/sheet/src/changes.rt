@@ -1,6 +1,6 @@
 // Changes to the standing spaces: made, taken back, and noted as the latest.
+use crate::row::with_latest;
 use crate::row::with_place;
-use crate::row::without_oldest;
 use crate::row::without_place;
 use crate::sheet::Sheet;
 use spaces::space::Space;
@@ -87,7 +87,7 @@ impl Sheet {
         ensures { λ r. ⌜ r ≡ madeOf change self ⌝ }
     {
         match change {
-            Change::Entered(x) => self.with_last(x),
+            Change::Entered(x) => self.with(self.count, x),
             Change::Withdrawn(p, _) => self.without(p),
             Change::Marked(p, _, after) => self.restanding(p, after),
         }
@@ -103,20 +103,6 @@ impl Sheet {
             Change::Withdrawn(p, x) => self.with(p, x),
             Change::Marked(p, before, _) => self.restanding(p, before),
         }
-    }
-
-    fn with_last(self, x: Space) -> Sheet
-        requires { ⌜ Places self ⌝ }
-        ensures { λ r. ⌜ r ≡ fitted (appended x (standingOf self)) self ⌝ }
-    {
-        let count = self.count;
-        if 200 <= count {
-            return self;
-        }
-        let mut next = self;
-        next.spaces[count] = x;
-        next.count = count + 1;
-        next
     }
 
     fn without_last(self) -> Sheet
@@ -136,13 +122,14 @@ impl Sheet {
         ensures { λ r. ⌜ r ≡ fitted (removed p (standingOf self)) self ⌝ }
     {
         let count = self.count;
-        let mut next = self;
-        if p < count {
-            let spaces = self.spaces;
-            let row = without_place(spaces, count, p);
-            next.spaces = row;
-            next.count = count - 1;
+        if count <= p {
+            return self;
         }
+        let spaces = self.spaces;
+        let row = without_place(spaces, count, p);
+        let mut next = self;
+        next.spaces = row;
+        next.count = count - 1;
         next
     }
 
@@ -151,13 +138,14 @@ impl Sheet {
         ensures { λ r. ⌜ r ≡ fitted (inserted p x (standingOf self)) self ⌝ }
     {
         let count = self.count;
-        let mut next = self;
-        if count < 200 {
-            let spaces = self.spaces;
-            let row = with_place(spaces, count, least(p, count), x);
-            next.spaces = row;
-            next.count = count + 1;
+        if 200 <= count {
+            return self;
         }
+        let spaces = self.spaces;
+        let row = with_place(spaces, count, least(p, count), x);
+        let mut next = self;
+        next.spaces = row;
+        next.count = count + 1;
         next
     }
 
@@ -165,14 +153,15 @@ impl Sheet {
         requires { ⌜ Places self ⌝ }
         ensures { λ r. ⌜ r ≡ fitted (restood p standing (standingOf self)) self ⌝ }
     {
-        let count = self.count;
-        let mut next = self;
-        if p < count {
-            let spaces = self.spaces;
-            let mut x = spaces[p];
-            x.standing = standing;
-            next.spaces[p] = x;
+        if self.count <= p {
+            return self;
         }
+        let mut row = self.spaces;
+        let mut x = row[p];
+        x.standing = standing;
+        row[p] = x;
+        let mut next = self;
+        next.spaces = row;
         next
     }
 
@@ -183,17 +172,12 @@ impl Sheet {
     {
         let n = self.undoable;
         let latest = OpenChange::keeping(change);
-        let mut next = self;
-        next.redoable = 0;
-        if n < 64 {
-            next.changes[n] = latest;
-            next.undoable = n + 1;
-            return next;
-        }
         let changes = self.changes;
-        let mut kept = without_oldest(changes);
-        kept[63] = latest;
-        next.changes = kept;
+        let row = with_latest(changes, n, latest);
+        let mut next = self;
+        next.changes = row;
+        next.undoable = least(n + 1, 64);
+        next.redoable = 0;
         next
     }
 }

@@ -1,4 +1,5 @@
-// The arrays of a sheet: a place taken out, a place put in.
+// The arrays of a sheet: a place taken out, a place put in. Each goes in and comes back by value. A call that changes a row
+// does so here or in a local, and puts it back whole: a store into a place of a whole sheet has the sheet copied again.
 use crate::changes::OpenChange;
 use spaces::space::Space;
 ghost use mathlib.Core.Path.{_≡_};
@@ -6,6 +7,7 @@ ghost use mathlib.Core.List.{_∷_};
 ghost use Prim.Native.Nat.{_+_, _-_, _≤_, _<_};
 ghost use lib.ListN.{length, drop};
 ghost use lib.Seq.{paste};
+ghost use Rattle.sheet.specs.Handed.{behind};
 
 // Places for spaces, and for open changes. The `ensures` says it of the array too, which a struct's field doesn't tell.
 pub(crate) fn places_of(spaces: [Space; 200]) -> usize
@@ -51,8 +53,26 @@ pub(crate) fn with_place(spaces: [Space; 200], count: usize, p: usize, x: Space)
     row
 }
 
+// A change put in behind the first n; where there is no place for it, the oldest is pushed out.
+pub(crate) fn with_latest(
+    changes: [OpenChange; 64],
+    n: usize,
+    latest: OpenChange,
+) -> [OpenChange; 64]
+    ensures { λ r. ⌜ r ≡ behind changes n latest ⌝ }
+{
+    if n < 64 {
+        let mut row = changes;
+        row[n] = latest;
+        return row;
+    }
+    let mut row = without_oldest(changes);
+    row[63] = latest;
+    row
+}
+
 // The changes with the oldest pushed out.
-pub(crate) fn without_oldest(changes: [OpenChange; 64]) -> [OpenChange; 64]
+fn without_oldest(changes: [OpenChange; 64]) -> [OpenChange; 64]
     ensures { λ r. ⌜ r ≡ paste changes 0 (drop 1 changes) 63 ⌝ }
 {
     let mut row = changes;

@@ -6,18 +6,19 @@ use Prim.Native.Nat.{ℕ, suc, _+_, _-_, _≤_, _<_, min}
 use native.Mathlib.Nat.{min-eq-left, min-eq-right, min-le-right}
 use native.Mathlib.Numerals.{add-one}
 use native.Mathlib.Omega.{arith}
-use borrow.Author.Tests.{le-leb, lt-leb, leb-true, leb-false}
-use lib.Dec.{leb}
+use borrow.Author.Tests.{le-leb, lt-leb, leb-true, leb-false, ltb-true, ltb-false}
+use lib.Dec.{leb, ltb}
 use lib.ListN.{length, take, drop, getD, set, length-append, length-drop, length-set, take-append-drop, drop-of-length-le}
 use lib.Seq.{length-take-le, take-all, take-take, getD-take, take-set-lt, drop-set-lt, set-out, set-at, append-snoc, drop-cons, drop-append-le, paste, length-paste-head}
 use Rattle.spaces.specs.Space.{emptySpace}
 use Rattle.spaces.specs.declared.space.Space.{Space}
 use Rattle.sheet.specs.Sheet.{standing, kept, noChange}
 use Rattle.sheet.specs.Changes.{appended, withoutLast, removed, inserted, restanding, restood, withStanding, fitted, withChanges, latest, noted}
-use Rattle.sheet.specs.Handed.{Places, OpenPlaces}
+use Rattle.sheet.specs.Handed.{Places, OpenPlaces, behind}
 use Rattle.sheet.specs.declared.changes.Change.{Change}
 use Rattle.sheet.specs.declared.changes.OpenChange.{OpenChange}
 use Rattle.sheet.specs.declared.sheet.Sheet.{Sheet}
+use Rattle.spaces.proofs.laws.Cases.{by-test}
 use Rattle.sheet.proofs.laws.Row.{drop-take, behind-first}
 
 -- the sheet with other places and another count
@@ -62,16 +63,6 @@ module _ (s : Sheet) (whole : Places s) where
   unchanged ys e =
       fits ys (s .count) (s .spaces) s (ap length e ∙ size) room (ap (λ (l : List Space). l ++ drop (s .count) (s .spaces)) e ∙ take-append-drop (s .count) (s .spaces))
 
-  pub last-fits : (x : Space) → s .count < 200 → placed (set (s .spaces) (s .count) x) (s .count + 1) s ≡ fitted (appended x (standing s)) s
-  last-fits x h =
-      fits (appended x (standing s)) (s .count + 1) (set (s .spaces) (s .count) x) s
-      (length-append (standing s) (x ∷ []) ∙ ap (λ (n : ℕ). n + 1) size)
-      (omega arith)
-      (behind-first (s .spaces) (s .count) x (omega arith))
-
-  pub last-too-many : (x : Space) → 200 ≤ s .count → s ≡ fitted (appended x (standing s)) s
-  last-too-many x h = too-many (appended x (standing s)) s (omega (arith, length-append (standing s) (x ∷ []), size))
-
   pub last-off : placed (s .spaces) (s .count - 1) s ≡ fitted (withoutLast (standing s)) s
   last-off =
       let n = s .count - 1 in
@@ -113,7 +104,7 @@ module _ (s : Sheet) (whole : Places s) where
       ∙ take-all p (standing s) (omega (arith, size)))
 
   -- a place behind all is the last
-  inserted-behind : (k : ℕ) (x : Space) → s .count ≤ k → inserted k x (standing s) ≡ appended x (standing s)
+  pub inserted-behind : (k : ℕ) (x : Space) → s .count ≤ k → inserted k x (standing s) ≡ appended x (standing s)
   inserted-behind k x h =
       ap (λ (l : List Space). l ++ x ∷ drop k (standing s)) (take-all k (standing s) (omega (arith, size)))
       ∙ ap (λ (l : List Space). standing s ++ x ∷ l) (drop-of-length-le (standing s) {i = k} (omega (arith, size)))
@@ -179,7 +170,7 @@ module _ (s : Sheet) (c : Change) (whole : OpenPlaces s) where
   full64 : length (s .changes) ≡ 64
   full64 = whole .all
 
-  pub noted-behind : s .undoable < 64 → withChanges (set (s .changes) (s .undoable) (kept c)) (s .undoable + 1) 0 s ≡ noted c s
+  noted-behind : s .undoable < 64 → withChanges (set (s .changes) (s .undoable) (kept c)) (s .undoable + 1) 0 s ≡ noted c s
   unfolding noted
   noted-behind h =
       let n = s .undoable in
@@ -195,7 +186,7 @@ module _ (s : Sheet) (c : Change) (whole : OpenPlaces s) where
       over : {k : ℕ} → k ≡ s .undoable + 1 → k - 64 ≡ 0
       over e = omega arith
 
-  pub noted-full : s .undoable ≡ 64 → withChanges (set (paste (s .changes) 0 (drop 1 (s .changes)) 63) 63 (kept c)) (s .undoable) 0 s ≡ noted c s
+  noted-full : s .undoable ≡ 64 → withChanges (set (paste (s .changes) 0 (drop 1 (s .changes)) 63) 63 (kept c)) (s .undoable) 0 s ≡ noted c s
   unfolding noted
   noted-full h =
       let o : OpenChange = kept c in
@@ -217,3 +208,16 @@ module _ (s : Sheet) (c : Change) (whole : OpenPlaces s) where
       (ap (λ (k : ℕ). withChanges (latest cs ++ drop k ch) k 0 s) len
       ∙ ap (λ (l : List OpenChange). withChanges l 64 0 s) places
       ∙ ap (λ (k : ℕ). withChanges (set (paste ch 0 (drop 1 ch) 63) 63 o) k 0 s) (sym h))
+
+  -- either way, as the array of changes and its count have it
+  pub noted-is : withChanges (behind (s .changes) (s .undoable) (kept c)) (min (s .undoable + 1) 64) 0 s ≡ noted c s
+  noted-is =
+      by-test (ltb (s .undoable) 64)
+      (λ t.
+      let h = ltb-true (s .undoable) 64 t in
+      let m : min (s .undoable + 1) 64 ≡ s .undoable + 1 = min-eq-left (omega arith) in
+      rw (t, m) (noted-behind h))
+      (λ f.
+      let h : s .undoable ≡ 64 = omega (arith, ltb-false (s .undoable) 64 f, whole .count) in
+      let m : min (s .undoable + 1) 64 ≡ s .undoable = min-eq-right (omega arith) ∙ sym h in
+      rw (f, m) (noted-full h))

@@ -1,19 +1,23 @@
 -- `Sheet::mark` meets its contract: the tests of 1, 2, 5, 6 and 8, and the mark made and noted.
 use mathlib.Core.Path.{_≡_, sym, ap, ap₂, _∙_}
-use Prim.Native.Nat.{ℕ}
+use Prim.Native.Nat.{ℕ, _<_}
+use native.Mathlib.Omega.{arith}
 use Rattle.measure.proofs.laws.Tests.{holds, fails}
 use borrow.Author.Tests.{not-false, lt-ltb, le-ltb}
 use Rattle.sheet.specs.Sheet.{standing, usable}
 use Rattle.sheet.specs.Changes.{made, noted}
 use Rattle.sheet.specs.declared.changes.Change.{Change}
 use Rattle.sheet.specs.declared.sheet.Sheet.{Sheet}
-use mathlib.Core.List.{_∷_}
+use mathlib.Core.List.{[], _∷_}
 use lib.Dec.{ltb}
-use Rattle.spaces.specs.Rules.{markTests, markNumber}
+use lib.ListN.{getD}
+use Rattle.spaces.specs.Space.{emptySpace}
+use Rattle.spaces.specs.Row.{find, placeOf}
+use Rattle.spaces.specs.Rules.{cannotTake, markedTwice, markTests, markNumber}
 use Rattle.spaces.specs.declared.space.Space.{Space}
 use Rattle.sheet.specs.Calls.{answered, changed, marking, marked}
 use Rattle.sheet.specs.declared.changes.Change.the-variants.{Marked}
-use Rattle.sheet.proofs.laws.Calls.{applies, passes, not-open, is-open, refused, fitted-open-places, places, open-places}
+use Rattle.sheet.proofs.laws.Calls.{applies, passes, not-open, is-open, refused, fitted-open-places, places, open-places, PlaceOf, has-place}
 use borrow.Author.Needs.{needs}
 use Rattle.sheet.proofs.sheet.Sheet.mark.Statement.{statement}
 use Rattle.sheet.proofs.sheet.Sheet.mark.Tie as tie
@@ -57,11 +61,30 @@ returns-3 c =
     refused (c .before .mark-number .result) sh next (c .if3 .taken)
     ∙ ap (λ (k : ℕ). answered k sh next) (c .before .mark-number .ensures ∙ sym on)
 
-space-with-requires : tie.Need-space-with-requires
-space-with-requires c κs = search needs
-
 place-of-requires : tie.Need-place-of-requires
 place-of-requires c κs = search needs
+
+-- the space marked stands, so it lies at its place
+there : (c : tie.After-place-of) → (let s = c .before .before .before .before .before .before .before in PlaceOf (s .args .self) (s .args .id))
+unfolding markNumber
+there c =
+    let n = c .before .before in
+    let s = n .before .before .before .before .before in
+    let xs = standing (s .args .self) in
+    has-place (s .args .self) (s .args .id) ((cannotTake (find (s .args .id) xs) (s .args .standing), 6) ∷ (markedTwice xs (s .args .id) (s .args .standing), 8) ∷ [])
+    (places (n .before .before .before .before .usable .ensures) (not-false _ (n .before .before .before .if1 .left)))
+    (sym (n .mark-number .ensures) ∙ c .before .if3 .left)
+
+inside : (c : tie.After-place-of) → c .place-of .result < 200
+inside c =
+    let u = c .before .before .before .before .before in
+    omega (arith, c .place-of .ensures, there c .taken, places (u .before .usable .ensures) (not-false _ (u .if1 .left)) .count)
+
+mul-before : tie.Need-mul-before
+mul-before c = omega (arith, inside c)
+
+array-copy-out-before : tie.Need-array-copy-out-before
+array-copy-out-before c = omega (arith, inside c)
 
 made-requires : tie.Need-made-requires
 made-requires c κs = places (c .before .before .before .before .before .before .before .usable .ensures) (not-false _ (c .before .before .before .before .before .before .if1 .left))
@@ -78,7 +101,9 @@ returns-4 c =
     let tests = markTests (standing sh) (s .args .id) st in
     let next = changed (marking sh (s .args .id) st) sh in
     let on = is-open sh ((ltb 3 st, 2) ∷ tests) (holds (c .before .before .before .before .before .before .before .before .before .usable .ensures .usable-is) (c .before .before .before .before .before .before .before .before .if1 .left)) ∙ passes (ltb 3 st) 2 tests (le-ltb 3 st (c .before .before .before .before .before .before .before .if2 .left)) in
-    let ch : Marked (c .before .before .place-of .result) (c .before .before .before .space-with .result .standing) st ≡ marking sh (s .args .id) st = ap₂ (λ (p : ℕ) (x : Space). Marked p (x .standing) st) (c .before .before .place-of .ensures) (c .before .before .before .space-with .ensures) in
+    let p = c .before .before .before in
+    let ch : Marked (p .place-of .result) (getD (sh .spaces) (p .place-of .result) emptySpace .standing) st ≡ marking sh (s .args .id) st =
+    ap (λ (k : ℕ). Marked k (getD (sh .spaces) k emptySpace .standing) st) (p .place-of .ensures) ∙ ap (λ (x : Space). Marked (placeOf (s .args .id) (standing sh)) (x .standing) st) (there p .there) in
     let after = c .noted .ensures ∙ ap₂ noted ch (c .before .made .ensures ∙ ap (λ (x : Change). made x sh) ch) in
     let none = on ∙ sym (c .before .before .before .before .before .mark-number .ensures) ∙ c .before .before .before .before .if3 .left in
     ap (λ (x : Sheet). record { number = 0; sheet = x }) after ∙ ap (λ (k : ℕ). answered k sh next) (sym none)
@@ -92,8 +117,9 @@ mark-spec =
     returns-2
     mark-number-requires
     returns-3
-    space-with-requires
     place-of-requires
+    mul-before
+    array-copy-out-before
     made-requires
     noted-requires
     returns-4)

@@ -24,50 +24,50 @@ usable-requires c κs = search needs
 returns : tie.Need-returns
 unfolding redone
 returns c =
-    let sh = c .before .before .args .t1 in
+    let sh = c .before .before .args .self in
     let next = recounted (sh .undoable + 1) (sh .redoable - 1) (made (changeAt sh (sh .undoable)) sh) in
     ap (λ (k : ℕ). answered k sh next) (sym (not-open sh ((eqb (sh .redoable) 0, 12) ∷ []) (fails (c .before .usable .ensures .usable-is) (c .if1 .taken))))
 
 returns-2 : tie.Need-returns-2
 unfolding redone
 returns-2 c =
-    let sh = c .before .before .before .args .t1 in
+    let sh = c .before .before .before .args .self in
     let next = recounted (sh .undoable + 1) (sh .redoable - 1) (made (changeAt sh (sh .undoable)) sh) in
     let on = is-open sh ((eqb (sh .redoable) 0, 12) ∷ []) (holds (c .before .before .usable .ensures .usable-is) (c .before .if1 .left)) in
     ap (λ (k : ℕ). answered k sh next) (sym (on ∙ applies (eqb (sh .redoable) 0) 12 [] (eq-eqb (sh .redoable) 0 (c .if2 .taken))))
 
 mul-last : tie.Need-mul-last
 mul-last c =
-    let u = usable-counts _ (holds (c .before .before .usable .ensures .usable-is) (c .before .if1 .left)) in
-    omega (arith, u .undoable, u .redoable, c .if2 .left)
+    let u = usable-counts _ (holds (c .before .before .before .usable .ensures .usable-is) (c .before .before .if1 .left)) in
+    omega (arith, u .undoable, u .redoable, c .before .if2 .left)
 
-element-copy-out-last : tie.Need-element-copy-out-last
-element-copy-out-last c =
-    let u = usable-counts _ (holds (c .before .before .usable .ensures .usable-is) (c .before .if1 .left)) in
-    omega (arith, u .undoable, u .redoable, c .if2 .left)
+array-copy-out-last : tie.Need-array-copy-out-last
+array-copy-out-last c =
+    let u = usable-counts _ (holds (c .before .before .before .usable .ensures .usable-is) (c .before .before .if1 .left)) in
+    omega (arith, u .undoable, u .redoable, c .before .if2 .left)
 
 change-requires : tie.Need-change-requires
 change-requires c κs = search needs
 
 made-requires : tie.Need-made-requires
-made-requires c κs = places (c .before .before .before .before .usable .ensures) (not-false _ (c .before .before .before .if1 .left))
+made-requires c κs = places (c .before .before .before .before .before .usable .ensures) (not-false _ (c .before .before .before .before .if1 .left))
 
 add-next : tie.Need-add-next
 add-next c =
-    let u = usable-counts _ (holds (c .before .before .before .before .before .usable .ensures .usable-is) (c .before .before .before .before .if1 .left)) in
-    omega (arith, u .undoable, u .redoable, c .before .before .before .if2 .left)
+    let u = usable-counts _ (holds (c .before .before .before .before .before .before .usable .ensures .usable-is) (c .before .before .before .before .before .if1 .left)) in
+    omega (arith, u .undoable, u .redoable, c .before .before .before .before .if2 .left)
 
 sub-next : tie.Need-sub-next
 sub-next c =
-    let u = usable-counts _ (holds (c .before .before .before .before .before .usable .ensures .usable-is) (c .before .before .before .before .if1 .left)) in
-    omega (arith, u .undoable, u .redoable, c .before .before .before .if2 .left)
+    let u = usable-counts _ (holds (c .before .before .before .before .before .before .usable .ensures .usable-is) (c .before .before .before .before .before .if1 .left)) in
+    omega (arith, u .undoable, u .redoable, c .before .before .before .before .if2 .left)
 
 returns-3 : tie.Need-returns-3
 unfolding redone
 returns-3 c =
-    let sh = c .before .before .before .before .before .before .args .t1 in
+    let sh = c .before .before .before .before .before .before .before .args .self in
     let next = recounted (sh .undoable + 1) (sh .redoable - 1) (made (changeAt sh (sh .undoable)) sh) in
-    let on = is-open sh ((eqb (sh .redoable) 0, 12) ∷ []) (holds (c .before .before .before .before .before .usable .ensures .usable-is) (c .before .before .before .before .if1 .left)) ∙ passes (eqb (sh .redoable) 0) 12 [] (ne-eqb (sh .redoable) 0 (c .before .before .before .if2 .left)) in
+    let on = is-open sh ((eqb (sh .redoable) 0, 12) ∷ []) (holds (c .before .before .before .before .before .before .usable .ensures .usable-is) (c .before .before .before .before .before .if1 .left)) ∙ passes (eqb (sh .redoable) 0) 12 [] (ne-eqb (sh .redoable) 0 (c .before .before .before .before .if2 .left)) in
     ap (λ (t : Sheet). record { number = 0; sheet = recounted (sh .undoable + 1) (sh .redoable - 1) t }) (c .made .ensures ∙ ap (λ (d : Change). made d sh) (c .before .change .ensures)) ∙ ap (λ (k : ℕ). answered k sh next) (sym on)
 
 pub redo-spec : {M : Type 1} → statement M
@@ -78,7 +78,7 @@ redo-spec =
     returns
     returns-2
     mul-last
-    element-copy-out-last
+    array-copy-out-last
     change-requires
     made-requires
     add-next

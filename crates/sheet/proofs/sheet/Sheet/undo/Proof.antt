@@ -24,14 +24,14 @@ usable-requires c κs = search needs
 returns : tie.Need-returns
 unfolding undone
 returns c =
-    let sh = c .before .before .args .t1 in
+    let sh = c .before .before .args .self in
     let next = recounted (sh .undoable - 1) (sh .redoable + 1) (takenBack (changeAt sh (sh .undoable - 1)) sh) in
     ap (λ (k : ℕ). answered k sh next) (sym (not-open sh ((eqb (sh .undoable) 0, 12) ∷ []) (fails (c .before .usable .ensures .usable-is) (c .if1 .taken))))
 
 returns-2 : tie.Need-returns-2
 unfolding undone
 returns-2 c =
-    let sh = c .before .before .before .args .t1 in
+    let sh = c .before .before .before .args .self in
     let next = recounted (sh .undoable - 1) (sh .redoable + 1) (takenBack (changeAt sh (sh .undoable - 1)) sh) in
     let on = is-open sh ((eqb (sh .undoable) 0, 12) ∷ []) (holds (c .before .before .usable .ensures .usable-is) (c .before .if1 .left)) in
     ap (λ (k : ℕ). answered k sh next) (sym (on ∙ applies (eqb (sh .undoable) 0) 12 [] (eq-eqb (sh .undoable) 0 (c .if2 .taken))))
@@ -43,32 +43,32 @@ sub-at c =
 
 mul-latest : tie.Need-mul-latest
 mul-latest c =
-    let u = usable-counts _ (holds (c .before .before .usable .ensures .usable-is) (c .before .if1 .left)) in
-    omega (arith, u .undoable, u .redoable, c .if2 .left)
+    let u = usable-counts _ (holds (c .before .before .before .usable .ensures .usable-is) (c .before .before .if1 .left)) in
+    omega (arith, u .undoable, u .redoable, c .before .if2 .left)
 
-element-copy-out-latest : tie.Need-element-copy-out-latest
-element-copy-out-latest c =
-    let u = usable-counts _ (holds (c .before .before .usable .ensures .usable-is) (c .before .if1 .left)) in
-    omega (arith, u .undoable, u .redoable, c .if2 .left)
+array-copy-out-latest : tie.Need-array-copy-out-latest
+array-copy-out-latest c =
+    let u = usable-counts _ (holds (c .before .before .before .usable .ensures .usable-is) (c .before .before .if1 .left)) in
+    omega (arith, u .undoable, u .redoable, c .before .if2 .left)
 
 change-requires : tie.Need-change-requires
 change-requires c κs = search needs
 
 taken-back-requires : tie.Need-taken-back-requires
-taken-back-requires c κs = places (c .before .before .before .before .usable .ensures) (not-false _ (c .before .before .before .if1 .left))
+taken-back-requires c κs = places (c .before .before .before .before .before .usable .ensures) (not-false _ (c .before .before .before .before .if1 .left))
 
 add-next : tie.Need-add-next
 add-next c =
-    let u = usable-counts _ (holds (c .before .before .before .before .before .usable .ensures .usable-is) (c .before .before .before .before .if1 .left)) in
-    omega (arith, u .undoable, u .redoable, c .before .before .before .if2 .left)
+    let u = usable-counts _ (holds (c .before .before .before .before .before .before .before .usable .ensures .usable-is) (c .before .before .before .before .before .before .if1 .left)) in
+    omega (arith, u .undoable, u .redoable, c .before .before .before .before .before .if2 .left)
 
 returns-3 : tie.Need-returns-3
 unfolding undone
 returns-3 c =
-    let sh = c .before .before .before .before .before .before .args .t1 in
+    let sh = c .before .before .before .before .before .before .before .before .args .self in
     let next = recounted (sh .undoable - 1) (sh .redoable + 1) (takenBack (changeAt sh (sh .undoable - 1)) sh) in
-    let on = is-open sh ((eqb (sh .undoable) 0, 12) ∷ []) (holds (c .before .before .before .before .before .usable .ensures .usable-is) (c .before .before .before .before .if1 .left)) ∙ passes (eqb (sh .undoable) 0) 12 [] (ne-eqb (sh .undoable) 0 (c .before .before .before .if2 .left)) in
-    ap (λ (t : Sheet). record { number = 0; sheet = recounted (sh .undoable - 1) (sh .redoable + 1) t }) (c .taken-back .ensures ∙ ap (λ (d : Change). takenBack d sh) (c .before .change .ensures)) ∙ ap (λ (k : ℕ). answered k sh next) (sym on)
+    let on = is-open sh ((eqb (sh .undoable) 0, 12) ∷ []) (holds (c .before .before .before .before .before .before .before .usable .ensures .usable-is) (c .before .before .before .before .before .before .if1 .left)) ∙ passes (eqb (sh .undoable) 0) 12 [] (ne-eqb (sh .undoable) 0 (c .before .before .before .before .before .if2 .left)) in
+    ap (λ (t : Sheet). record { number = 0; sheet = recounted (sh .undoable - 1) (sh .redoable + 1) t }) (c .before .taken-back .ensures ∙ ap (λ (d : Change). takenBack d sh) (c .before .before .change .ensures)) ∙ ap (λ (k : ℕ). answered k sh next) (sym on)
 
 pub undo-spec : {M : Type 1} → statement M
 undo-spec =
@@ -79,7 +79,7 @@ undo-spec =
     returns-2
     sub-at
     mul-latest
-    element-copy-out-latest
+    array-copy-out-latest
     change-requires
     taken-back-requires
     add-next
