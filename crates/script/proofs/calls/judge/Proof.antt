@@ -1,9 +1,9 @@
--- `calls::judge` meets its contract. The loop's invariant: the words from here on are judged as the line is.
+-- `calls::judge` meets its contract. The loop's invariant: the line has as many words as are asked, and those from here on are judged as it is.
 use Prim.Native.Nat.{_+_, _-_, _<_}
 use mathlib.Core.Path.{_≡_, sym, _∙_}
 use native.Mathlib.Omega.{arith}
 use lib.ListN.{length, drop}
-use Rattle.script.specs.Words.{wordsOf}
+use Rattle.script.specs.Words.{marksIn, wordsOf}
 use Rattle.script.specs.Calls.{asked, judgedWords, judged}
 use Rattle.script.proofs.laws.Calls.{words-ahead, words-ended, wrong-number, right-number}
 use borrow.Author.Needs.{needs}
@@ -12,7 +12,8 @@ use Rattle.script.proofs.calls.judge.Tie as tie
 
 abbrev Inv-loop : tie.InvT-loop
 Inv-loop line call behind k₀ k =
-    judgedWords (drop k (asked call)) (drop (k + 1) (wordsOf line)) ≡ judged line call
+    (marksIn 32 line ≡ length (asked call))
+    × (judgedWords (drop k (asked call)) (drop (k + 1) (wordsOf line)) ≡ judged line call)
 
 abbrev μ-loop : tie.MeasureT-loop
 μ-loop line call behind k₀ k = behind - k
@@ -31,7 +32,8 @@ returns c =
 loop-holds : tie.Need-loop-holds Inv-loop μ-loop
 loop-holds c =
     let a = c .before .before .before .before .args in
-    sym (right-number (a .line .now) (a .call) (sym (c .before .marks .ensures) ∙ c .if1 .left ∙ c .before .before .words-asked .ensures))
+    let n = sym (c .before .marks .ensures) ∙ c .if1 .left ∙ c .before .before .words-asked .ensures in
+    (n, sym (right-number (a .line .now) (a .call) n))
 
 add-word : tie.Need-add-word Inv-loop μ-loop
 add-word c = search needs
@@ -60,11 +62,9 @@ returns-2 c =
     let w = c .before .before .before .before in
     let l = w .before .before in
     let t = l .before .before .before in
-    let a = t .before .before .args in
-    let n = sym (l .before .before .marks .ensures) ∙ l .before .if1 .left ∙ t .words-asked .ensures in
     let told = c .enum-told2 .given .1 in
-    let next = words-ahead (a .line .now) (a .call) (l .loop .k) n (omega (arith, t .words-asked .ensures)) (c .before .before .before .asked-at .ensures) (w .word .ensures) (c .before .before .judge-word .ensures) told in
-    told ∙ sym next ∙ l .loop .inv
+    let next = words-ahead (t .before .before .args .line .now) (t .before .before .args .call) (l .loop .k) (l .loop .inv .0) (omega (arith, t .words-asked .ensures)) (c .before .before .before .asked-at .ensures) (w .word .ensures) (c .before .before .judge-word .ensures) told in
+    told ∙ sym next ∙ l .loop .inv .1
 
 add-k : tie.Need-add-k Inv-loop μ-loop
 add-k c = search needs
@@ -77,18 +77,16 @@ loop-again c =
     let w = c .before .before .before .before in
     let l = w .before .before in
     let t = l .before .before .before in
-    let a = t .before .before .args in
-    let n = sym (l .before .before .marks .ensures) ∙ l .before .if1 .left ∙ t .words-asked .ensures in
     let told = c .enum-told .given .1 in
-    let next = words-ahead (a .line .now) (a .call) (l .loop .k) n (omega (arith, t .words-asked .ensures)) (c .before .before .before .asked-at .ensures) (w .word .ensures) (c .before .before .judge-word .ensures) told in
-    sym next ∙ l .loop .inv
+    let next = words-ahead (t .before .before .args .line .now) (t .before .before .args .call) (l .loop .k) (l .loop .inv .0) (omega (arith, t .words-asked .ensures)) (c .before .before .before .asked-at .ensures) (w .word .ensures) (c .before .before .judge-word .ensures) told in
+    (l .loop .inv .0, sym next ∙ l .loop .inv .1)
 
 returns-3 : tie.Need-returns-3 Inv-loop μ-loop
 returns-3 c =
     let l = c .before in
     let t = l .before .before .before in
     let a = t .before .before .args in
-    sym (words-ended (asked (a .call)) (drop (l .loop .k + 1) (wordsOf (a .line .now))) (l .loop .k) (omega (arith, t .words-asked .ensures))) ∙ l .loop .inv
+    sym (words-ended (asked (a .call)) (drop (l .loop .k + 1) (wordsOf (a .line .now))) (l .loop .k) (omega (arith, t .words-asked .ensures))) ∙ l .loop .inv .1
 
 pub judge-spec : {M : Type 1} → statement M
 judge-spec =
