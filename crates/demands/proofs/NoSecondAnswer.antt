@@ -2,7 +2,7 @@
 -- Every public function promises `r ≡ definition arguments`, with no condition on the arguments; of a lent buffer that the bytes after
 -- the call are those of a definition; of a part of a slice that its bytes are. (tools/promises.py fails where one promises less.) A
 -- definition has one value, so there is no second answer: one law over all of them, and below it each function with its definition.
-use Prim.Native.Nat.{ℕ}
+use Prim.Native.Nat.{ℕ, min}
 use mathlib.Core.Path.{_≡_, sym, _∙_}
 use mathlib.Core.Bool.{Bool, false}
 use mathlib.Core.List.{List, []}
@@ -84,6 +84,7 @@ pub data Public : Type 0 → Type 0 → Type 1 where
   -- spaces
   empty : Public (Unit {0}) Space
   may-take : Public (ℕ × ℕ) Bool
+  least : Public (ℕ × ℕ) ℕ
   used : Public ℕ ℕ
   find : Public (List Space × ℕ × ℕ) Found
   place-of : Public (List Space × ℕ × ℕ) ℕ
@@ -149,6 +150,7 @@ promised hatchway-excess (g, hatchways) = hatchwayExcess g hatchways
 promised ballast-over (ballast, gross) = ballastOver ballast gross
 promised empty none = emptySpace
 promised may-take (kind, standing) = mayTake kind standing
+promised least (a, b) = min a b
 promised used count = usedOf count
 promised find (spaces, count, id) = foundAs (findIn id (take count spaces))
 promised place-of (spaces, count, id) = placeOf id (take count spaces)
@@ -157,7 +159,7 @@ promised space-with (spaces, count, id) = spaceWith (findIn id (take count space
 promised entry-number (spaces, count, L, x) = entryNumber L (take count spaces) x
 promised withdraw-number (spaces, count, id) = withdrawNumber (take count spaces) id
 promised mark-number (spaces, count, id, standing) = markNumber (take count spaces) id standing
-promised first-refused (spaces, count, tonnage-length) = firstRefused tonnage-length [] (take count spaces)
+promised first-refused (spaces, count, L) = firstRefused L [] (take count spaces)
 promised reckon (spaces, count) = reckoned (take count spaces)
 promised «open» length = openedWith length
 promised closed none = blank false 0

@@ -3,6 +3,7 @@ use crate::row::with_latest;
 use crate::row::with_place;
 use crate::row::without_place;
 use crate::sheet::Sheet;
+use spaces::row::least;
 use spaces::space::Space;
 use spaces::space::empty;
 ghost use mathlib.Core.Path.{_≡_};
@@ -180,13 +181,4 @@ impl Sheet {
         next.redoable = 0;
         next
     }
-}
-
-fn least(a: usize, b: usize) -> usize
-    ensures { λ r. ⌜ r ≡ min a b ⌝ }
-{
-    if a < b {
-        return a;
-    }
-    b
 }

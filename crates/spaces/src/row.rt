@@ -12,14 +12,21 @@ pub enum Found {
     Nothing,
 }
 
+// The lesser of two numbers.
+pub fn least(a: usize, b: usize) -> usize
+    ensures { λ r. ⌜ r ≡ min a b ⌝ }
+{
+    if a < b {
+        return a;
+    }
+    b
+}
+
 // How many places are used, of 200.
 pub fn used(count: usize) -> usize
     ensures { λ r. ⌜ r ≡ usedOf count ⌝ }
 {
-    if count < 200 {
-        return count;
-    }
-    200
+    least(count, 200)
 }
 
 pub fn find(spaces: [Space; 200], count: usize, id: u16) -> Found
@@ -72,14 +79,4 @@ pub fn space_with(spaces: [Space; 200], count: usize, id: u16) -> Space
         Found::At(x) => x,
         Found::Nothing => empty(),
     }
-}
-
-// The lesser of two places.
-pub(crate) fn least(a: usize, b: usize) -> usize
-    ensures { λ r. ⌜ r ≡ min a b ⌝ }
-{
-    if a < b {
-        return a;
-    }
-    b
 }
