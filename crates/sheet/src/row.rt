@@ -36,18 +36,16 @@ pub(crate) fn without_place(spaces: [Space; 200], count: usize, p: usize) -> [Sp
     row
 }
 
-// A space put in at the place p, and those from p on each one place further.
+// A space put in at the place p, and those from p on each one place further, read off the row as it came: so all move at once.
 pub(crate) fn with_place(spaces: [Space; 200], count: usize, p: usize, x: Space) -> [Space; 200]
     requires { ⌜ (count < 200) × (p ≤ count) ⌝ }
     ensures { λ r. ⌜ r ≡ paste spaces p (x ∷ drop p spaces) (count + 1 - p) ⌝ }
 {
     let mut row = spaces;
-    let mut carried = x;
+    row[p] = x;
     let mut i = p;
-    while i <= count {
-        let next = row[i];
-        row[i] = carried;
-        carried = next;
+    while i < count {
+        row[i + 1] = spaces[i];
         i += 1;
     }
     row

@@ -63,21 +63,19 @@ module _ {A : Type 0} (d row : List A) (p i : ℕ) (z : A) where
       ap (λ (r : List A). set r i (getD row (i + 1) z)) inv ∙ copy-step d s p i z (getD row (i + 1) z) hp (omega arith) (omega arith) v
 
   -- each by the one before it, x at p
-  pub insert-again : (x carried : A) → p ≤ i → i < length d → row ≡ paste d p (x ∷ drop p d) (i - p) → carried ≡ getD (x ∷ drop p d) (i - p) z
-      → set row i carried ≡ paste d p (x ∷ drop p d) (i + 1 - p)
-  insert-again x carried hp hd inv e =
-      let s : List A = x ∷ drop p d in
-      let ls : length (drop p d) ≡ length d - p = length-drop p d in
-      ap (λ (r : List A). set r i carried) inv ∙ copy-step d s p i z carried hp hd (omega arith) e
-
-  pub insert-next : (x : A) → p ≤ i → i < length d → row ≡ paste d p (x ∷ drop p d) (i - p) → getD row i z ≡ getD (x ∷ drop p d) (i + 1 - p) z
-  insert-next x hp hd inv =
+  pub insert-again : (x : A) → p ≤ i → i + 1 < length d → row ≡ paste d p (x ∷ drop p d) (i + 1 - p)
+      → set row (i + 1) (getD d i z) ≡ paste d p (x ∷ drop p d) (i + 1 + 1 - p)
+  insert-again x hp hd inv =
       let s : List A = x ∷ drop p d in
       let ls : length (drop p d) ≡ length d - p = length-drop p d in
       let there : i ≡ p + (i - p) = omega arith in
       let next : suc (i - p) ≡ i + 1 - p = omega arith in
-      ap (λ (r : List A). getD r i z) inv
-      ∙ copy-read d s p i z i (omega arith) hp (omega arith) (omega arith)
-      ∙ ap (λ (m : ℕ). getD d m z) there
-      ∙ sym (getD-drop p d (i - p) z)
-      ∙ ap (λ (m : ℕ). getD s m z) next
+      let v : getD d i z ≡ getD s (i + 1 - p) z =
+      ap (λ (m : ℕ). getD d m z) there ∙ sym (getD-drop p d (i - p) z) ∙ ap (λ (m : ℕ). getD s m z) next in
+      ap (λ (r : List A). set r (i + 1) (getD d i z)) inv ∙ copy-step d s p (i + 1) z (getD d i z) (omega arith) hd (omega arith) v
+
+pub insert-first : {A : Type 0} (d : List A) (p : ℕ) (x : A) → p < length d → set d p x ≡ paste d p (x ∷ drop p d) (p + 1 - p)
+insert-first d p x h =
+    let s = x ∷ drop p d in
+    let v : x ≡ getD s (p - p) x = rw sub-self in
+    ap (λ l. set l p x) (copy-none d s p) ∙ copy-step d s p p x x (omega arith) h (omega (arith, length-drop p d)) v
