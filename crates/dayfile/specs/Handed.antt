@@ -14,6 +14,8 @@ use Rattle.dayfile.specs.Record.{recordFields, spaceOf}
 use Rattle.dayfile.specs.Reading.{trailerTests, acceptedReading, refusedReading}
 use Rattle.dayfile.specs.declared.trailer.Trailer.{Trailer}
 use Rattle.dayfile.specs.declared.reading.Reading.{Reading}
+use Rattle.dayfile.specs.declared.writing.Stored.{Stored}
+use Rattle.dayfile.specs.declared.writing.Written.{Written}
 
 -- the number of some bytes, which fits its width
 pub record Number (width : ℕ) (bytes : List ℕ) (r : ℕ) : Type 0 where
@@ -38,3 +40,7 @@ unfoldable pub judgedReading : Sheet → Trailer → ℕ → Reading
 judgedReading s t start =
     let n = firstOf (trailerTests s t) in
     cond (eqb n 0) (acceptedReading s (t .justified) start) (refusedReading n 0)
+
+-- what a write answers, with the sheet handed back
+abbrev pub handedBack : Stored → Sheet → Written
+handedBack stored s = record { number = stored .number; bytes = stored .bytes; sheet = s }

@@ -8,6 +8,7 @@ use sheet::Sheet;
 ghost use mathlib.Core.Path.{_≡_};
 ghost use lib.ListN.{length};
 ghost use Rattle.dayfile.specs.Writing.{written, writtenInto};
+ghost use Rattle.dayfile.specs.Handed.{handedBack};
 
 // The paper's number, 0 where accepted, the bytes written, and the sheet as it came.
 #[repr(C)]
@@ -22,17 +23,35 @@ pub fn write(sheet: Sheet, justified: u8, buf: &mut [u8], at: usize) -> Written
     ensures answer { λ r. ⌜ r ≡ written sheet justified (length (now (buf .entry))) at ⌝ }
     ensures buffer { λ _. ⌜ now (buf .exit) ≡ writtenInto sheet justified at (now (buf .entry)) ⌝ }
 {
+    let stored = store(sheet, justified, buf, at);
+    Written {
+        number: stored.number,
+        bytes: stored.bytes,
+        sheet,
+    }
+}
+
+// What a write answers beside the sheet, which isn't copied into each answer.
+pub struct Stored {
+    pub number: u8,
+    pub bytes: usize,
+}
+
+fn store(sheet: Sheet, justified: u8, buf: &mut [u8], at: usize) -> Stored
+    ensures answer { λ r. ⌜ handedBack r sheet ≡ written sheet justified (length (now (buf .entry))) at ⌝ }
+    ensures buffer { λ _. ⌜ now (buf .exit) ≡ writtenInto sheet justified at (now (buf .entry)) ⌝ }
+{
     let report = sheet.report(justified);
     if report.number != 0 {
-        return refused(report.number, sheet);
+        return refused(report.number);
     }
     let count = sheet.standing_count();
     let size = sheet_size(count);
     if buf.len() < at {
-        return refused(15, sheet);
+        return refused(15);
     }
     if buf.len() - at < size {
-        return refused(15, sheet);
+        return refused(15);
     }
     let trailer = Trailer {
         count,
@@ -44,19 +63,14 @@ pub fn write(sheet: Sheet, justified: u8, buf: &mut [u8], at: usize) -> Written
     write_records(&mut buf[at..], sheet.places(), count);
     let end = at + RECORD_SIZE * count;
     write_trailer(&mut buf[end..], trailer);
-    Written {
+    Stored {
         number: 0,
         bytes: size,
-        sheet,
     }
 }
 
-fn refused(number: u8, sheet: Sheet) -> Written
-    ensures { λ r. ⌜ r ≡ record { number = number; bytes = 0; sheet = sheet } ⌝ }
+fn refused(number: u8) -> Stored
+    ensures { λ r. ⌜ r ≡ record { number = number; bytes = 0 } ⌝ }
 {
-    Written {
-        number,
-        bytes: 0,
-        sheet,
-    }
+    Stored { number, bytes: 0 }
 }

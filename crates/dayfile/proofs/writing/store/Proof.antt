@@ -1,4 +1,4 @@
--- `write` meets its contract: refused as its report is, or for room; else the records and then the trailer are stored.
+-- `writing::store` meets its contract: refused as its report is, or for room; else the records and then the trailer are stored.
 use Prim.Native.Nat.{ℕ, _+_, _*_, _-_, _<_, _≤_}
 use mathlib.Core.Path.{_≡_, refl, sym, ap, _∙_}
 use mathlib.Core.List.{List}
@@ -13,13 +13,15 @@ use Rattle.sheet.proofs.laws.Report.{given, handed-out}
 use Rattle.dayfile.specs.Record.{recordSize, records}
 use Rattle.dayfile.specs.Trailer.{trailerBytes, sheetSize}
 use Rattle.dayfile.specs.Writing.{sheetBytes}
+use Rattle.dayfile.specs.Handed.{handedBack}
 use Rattle.dayfile.specs.declared.trailer.Trailer.{Trailer}
+use Rattle.dayfile.specs.declared.writing.Stored.{Stored}
 use Rattle.dayfile.proofs.laws.Stores.{stored-in-two-parts}
 use Rattle.dayfile.proofs.laws.Record.{length-records}
 use Rattle.dayfile.proofs.laws.Writing.{Answered, length-sheet, trailer-is, bytes-are, refused-with, as-report, no-room, room, accepted}
 use borrow.Author.Needs.{needs}
-use Rattle.dayfile.proofs.writing.write.Statement.{statement}
-use Rattle.dayfile.proofs.writing.write.Tie as tie
+use Rattle.dayfile.proofs.writing.store.Statement.{statement}
+use Rattle.dayfile.proofs.writing.store.Tie as tie
 
 -- 15 once the report is given
 refused-15 : (s : Sheet) (justified at : ℕ) (buffer : List ℕ) → reported s justified .number ≡ 0 → length buffer - at < sheetSize (s .count)
@@ -38,7 +40,7 @@ returns c =
     let e = ap (λ (r : Reported). r .number) (c .before .before .before .report .ensures) in
     let none = c .before .if1 .taken in
     let w = refused-with (a .sheet) (a .justified) (a .at) (a .buf .now) _ (as-report (a .sheet) (a .justified) (a .at) (a .buf .now) _ (sym e) none) none in
-    (c .refused .ensures ∙ w .0, w .1)
+    (ap (λ (r : Stored). handedBack r (a .sheet)) (c .refused .ensures) ∙ w .0, w .1)
 
 standing-count-requires : tie.Need-standing-count-requires
 standing-count-requires c κs = search needs
@@ -56,7 +58,7 @@ returns-2 c =
     let a = c .before .before .before .before .before .before .before .before .args in
     let g = given (a .sheet) (a .justified) _ (c .before .before .before .before .before .before .report .ensures) (c .before .before .before .before .if1 .left) in
     let w = refused-15 (a .sheet) (a .justified) (a .at) (a .buf .now) (g .number-is) (omega (arith, c .before .if2 .taken)) in
-    (c .refused2 .ensures ∙ w .0, w .1)
+    (ap (λ (r : Stored). handedBack r (a .sheet)) (c .refused2 .ensures) ∙ w .0, w .1)
 
 sub-if3 : tie.Need-sub-if3
 sub-if3 c = search needs
@@ -70,7 +72,7 @@ returns-3 c =
     let g = given (a .sheet) (a .justified) _ (c .before .before .before .before .before .before .before .report .ensures) (c .before .before .before .before .before .if1 .left) in
     let n = c .before .before .before .before .standing-count .ensures ∙ handed-out (a .sheet) (g .is-usable) .count-is in
     let w = refused-15 (a .sheet) (a .justified) (a .at) (a .buf .now) (g .number-is) (omega (arith, c .before .if3 .taken, c .before .before .before .sheet-size .ensures, n)) in
-    (c .refused3 .ensures ∙ w .0, w .1)
+    (ap (λ (r : Stored). handedBack r (a .sheet)) (c .refused3 .ensures) ∙ w .0, w .1)
 
 tonnage-length-requires : tie.Need-tonnage-length-requires
 tonnage-length-requires c κs = search needs
@@ -152,8 +154,8 @@ returns-4 c =
       stored ∙ ap (λ (b : List ℕ). sets (a .buf .now) (a .at) b) (bytes-are s (a .justified) n _ t count row trailer) ∙ w .1,
     )
 
-pub write-spec : {M : Type 1} → statement M
-write-spec =
+pub store-spec : {M : Type 1} → statement M
+store-spec =
     tie.close
     (tie.spec
     report-requires
