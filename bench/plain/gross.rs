@@ -1,0 +1,62 @@
+//! Gross and net, in hundredths of a ton ("Gross and net").
+use super::measure::{nearest, Kind};
+use super::rules::{Space, Standing};
+use super::Refusal;
+
+#[derive(Clone, Copy)]
+pub struct Report {
+    pub gross: u64,
+    pub net: u64,
+}
+
+/// The sums over the standing spaces.
+#[derive(Default)]
+struct Sums {
+    under_deck_lengths: u32,
+    hull: u64,
+    hatchways: u64,
+    exempt: u64,
+    ballast: u64,
+    deducted: u64,
+}
+
+impl Sums {
+    /// One way along the row. Every sum takes an amount or 0 of each space: no branch then depends on what stands where.
+    fn over(spaces: &[Space]) -> Sums {
+        let mut sums = Sums::default();
+        for space in spaces {
+            let tonnage_if = |counts: bool| if counts { u64::from(space.tonnage) } else { 0 };
+            let is_hull = matches!(space.kind, Kind::UnderDeck | Kind::BetweenDeck | Kind::Superstructure);
+            sums.under_deck_lengths += if space.kind == Kind::UnderDeck { space.length } else { 0 };
+            sums.hull += tonnage_if(is_hull);
+            sums.hatchways += tonnage_if(space.kind == Kind::Hatchway);
+            sums.exempt += tonnage_if(space.standing == Standing::Exempt);
+            sums.ballast += tonnage_if(space.standing == Standing::Ballast);
+            sums.deducted += tonnage_if(space.standing == Standing::Deducted);
+        }
+        sums
+    }
+
+    /// G and the excess of the hatchways over half a percent of it.
+    fn gross_over(&self, g: u64) -> u64 {
+        g + self.hatchways.saturating_sub(nearest(g, 200))
+    }
+
+    /// Whether water ballast is more than 30% of the gross with only standing 1 taken off.
+    fn ballast_over(&self) -> bool {
+        10 * self.ballast > 3 * self.gross_over(self.hull - self.exempt)
+    }
+}
+
+/// Gross and net of the spaces of a sheet with a tonnage length, or refusal 13 or 14.
+pub fn report(spaces: &[Space], tonnage_length: u32, justified: bool) -> Result<Report, Refusal> {
+    let sums = Sums::over(spaces);
+    if sums.under_deck_lengths != tonnage_length {
+        return Err(Refusal::LengthsDiffer);
+    }
+    if !justified && sums.ballast_over() {
+        return Err(Refusal::NotJustified);
+    }
+    let gross = sums.gross_over(sums.hull - sums.exempt - sums.ballast);
+    Ok(Report { gross, net: gross - sums.deducted })
+}

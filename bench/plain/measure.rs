@@ -1,0 +1,184 @@
+//! One space's tonnage from its offsets ("Spaces", "Units and roundings", "Ranges"). Measures are in hundredths of a foot,
+//! tonnages in hundredths of a ton.
+use super::Refusal;
+use std::ops::RangeInclusive;
+
+/// The kinds of space; `as u8` gives the code.
+#[derive(Clone, Copy, PartialEq, Eq)]
+#[repr(u8)]
+pub enum Kind {
+    UnderDeck = 1,
+    BetweenDeck,
+    Superstructure,
+    Hatchway,
+    Room,
+}
+
+const SHORTEST: u32 = 100;
+const LONGEST: u32 = 150_000;
+const DEEPEST: u32 = 20_000;
+const BROADEST: u32 = 30_000;
+
+/// One station more than the most parts.
+const MOST_STATIONS: usize = 17;
+
+/// A cubic foot, which is a hundredth of a ton, in products of three measures.
+const CUBIC_FOOT: u64 = 1_000_000;
+/// The same in products of two measures and a third interval of length, which is in thousandths of a foot.
+const CUBIC_FOOT_BY_THIRDS: u64 = 10_000_000;
+
+impl Kind {
+    pub fn of_code(code: u8) -> Option<Kind> {
+        match code {
+            1 => Some(Kind::UnderDeck),
+            2 => Some(Kind::BetweenDeck),
+            3 => Some(Kind::Superstructure),
+            4 => Some(Kind::Hatchway),
+            5 => Some(Kind::Room),
+            _ => None,
+        }
+    }
+
+    /// Whether a length is in the range of this kind.
+    pub fn takes_length(self, length: u32) -> bool {
+        match self {
+            Kind::UnderDeck | Kind::BetweenDeck => is_tonnage_length(length),
+            Kind::Superstructure | Kind::Hatchway | Kind::Room => (1..=LONGEST).contains(&length),
+        }
+    }
+}
+
+/// Whether a tonnage length is in its range.
+pub fn is_tonnage_length(length: u32) -> bool {
+    (SHORTEST..=LONGEST).contains(&length)
+}
+
+/// The tonnage of a space on a sheet with a tonnage length, or refusal 2 or 3.
+pub fn tonnage(
+    kind: Kind,
+    tonnage_length: u32,
+    length: u32,
+    heights: &[u32],
+    breadths: &[u32],
+) -> Result<u32, Refusal> {
+    if !kind.takes_length(length) || !offsets_in_range(kind, heights, breadths) {
+        return Err(Refusal::OutsideItsRange);
+    }
+    if heights.len() != stations(kind, tonnage_length, length) {
+        return Err(Refusal::NotTheNumberAsked);
+    }
+    let at_station = breadths_at_station(kind, heights[heights.len() / 2]);
+    if breadths.len() != at_station * heights.len() {
+        return Err(Refusal::NotTheNumberAsked);
+    }
+    Ok(match kind {
+        Kind::UnderDeck => under_deck(length, heights, breadths, at_station),
+        Kind::BetweenDeck | Kind::Superstructure => level(length, heights, breadths),
+        Kind::Hatchway | Kind::Room => hatchway_or_room(length, heights[0], breadths[0]),
+    })
+}
+
+/// Every height and breadth is in its range, surplus ones too; the least of a hatchway or a room is 1.
+fn offsets_in_range(kind: Kind, heights: &[u32], breadths: &[u32]) -> bool {
+    let least = matches!(kind, Kind::Hatchway | Kind::Room) as u32;
+    all_within(heights, least..=DEEPEST) && all_within(breadths, least..=BROADEST)
+}
+
+/// None ends the look early, so that several are compared at a time.
+fn all_within(measures: &[u32], range: RangeInclusive<u32>) -> bool {
+    measures.iter().fold(true, |fit, measure| fit & range.contains(measure))
+}
+
+/// One station more than parts; a hatchway or a room, which isn't divided, has one.
+fn stations(kind: Kind, tonnage_length: u32, length: u32) -> usize {
+    let parts = match kind {
+        Kind::UnderDeck if length == tonnage_length => parts_by_table(length),
+        Kind::UnderDeck => parts_of_step_part(length),
+        Kind::BetweenDeck => parts_by_table(tonnage_length),
+        Kind::Superstructure => parts_of_superstructure(tonnage_length, length),
+        Kind::Hatchway | Kind::Room => 0,
+    };
+    parts as usize + 1
+}
+
+/// The table of 69.109(g).
+fn parts_by_table(length: u32) -> u32 {
+    match length {
+        0..=5_000 => 6,
+        5_001..=10_000 => 8,
+        10_001..=15_000 => 10,
+        15_001..=20_000 => 12,
+        20_001..=25_000 => 14,
+        _ => 16,
+    }
+}
+
+fn parts_of_step_part(length: u32) -> u32 {
+    match length {
+        0..=2_000 => 2,
+        2_001..=3_999 => 4,
+        _ => parts_by_table(length),
+    }
+}
+
+/// The even number whose interval is nearest to that of the tonnage length; on a tie, the greater.
+fn parts_of_superstructure(tonnage_length: u32, length: u32) -> u32 {
+    let whole = parts_by_table(tonnage_length);
+    // how far length / parts is from the tonnage length's interval, times both numbers of parts
+    let distance = |parts: u32| (length * whole).abs_diff(tonnage_length * parts);
+    let nearer = |first: u32, second: u32| {
+        if distance(second) * first <= distance(first) * second {
+            second
+        } else {
+            first
+        }
+    };
+    (4..=16).step_by(2).fold(2, nearer)
+}
+
+/// For a U m + 1 breadths, m by the depth at its middle station; else one.
+fn breadths_at_station(kind: Kind, middle_depth: u32) -> usize {
+    match kind {
+        Kind::UnderDeck if middle_depth <= 1_600 => 5,
+        Kind::UnderDeck => 7,
+        _ => 1,
+    }
+}
+
+/// First and last once, even-numbered four times, other odd-numbered twice: that is, of every two parts the ends once and the middle
+/// four times.
+fn with_multipliers<T: Copy + Into<u64>>(values: &[T]) -> u64 {
+    let of_two_parts = |three: &[T]| three[0].into() + 4 * three[1].into() + three[2].into();
+    values.windows(3).step_by(2).map(of_two_parts).sum()
+}
+
+/// The third interval of a length with so many stations, in thousandths of a foot.
+fn third_of_length(length: u32, stations: usize) -> u64 {
+    nearest(10 * u64::from(length), 3 * (stations as u64 - 1))
+}
+
+fn under_deck(length: u32, depths: &[u32], breadths: &[u32], at_station: usize) -> u32 {
+    let mut areas = [0u64; MOST_STATIONS];
+    let parts_of_depth = at_station as u64 - 1;
+    for ((area, &depth), of_station) in areas.iter_mut().zip(depths).zip(breadths.chunks_exact(at_station)) {
+        *area = with_multipliers(of_station) * nearest(depth.into(), 3 * parts_of_depth);
+    }
+    let volume = with_multipliers(&areas[..depths.len()]) * third_of_length(length, depths.len());
+    nearest(volume, CUBIC_FOOT_BY_THIRDS) as u32
+}
+
+/// A between-deck level or a superstructure: an area, times the plain mean of the heights.
+fn level(length: u32, heights: &[u32], breadths: &[u32]) -> u32 {
+    let area = with_multipliers(breadths) * third_of_length(length, breadths.len());
+    let sum_of_heights: u32 = heights.iter().sum();
+    nearest(area * u64::from(sum_of_heights), CUBIC_FOOT_BY_THIRDS * heights.len() as u64) as u32
+}
+
+fn hatchway_or_room(length: u32, height: u32, breadth: u32) -> u32 {
+    nearest(u64::from(length) * u64::from(breadth) * u64::from(height), CUBIC_FOOT) as u32
+}
+
+/// a / b to the nearest whole number; a half goes up.
+pub fn nearest(a: u64, b: u64) -> u64 {
+    (a + b / 2) / b
+}

@@ -1,0 +1,169 @@
+//! The sheet and its changes, made in place ("The sheet and its changes").
+use super::gross::{self, Report};
+use super::history::{Change, History};
+use super::measure::{is_tonnage_length, tonnage, Kind};
+use super::rules::{level_of_entry, place_to_mark, place_to_withdraw, Space, Standing, PLACES};
+use super::Refusal;
+
+/// What is entered; `within` is looked at only of a room.
+#[derive(Clone, Copy)]
+pub struct Entry {
+    pub id: u16,
+    pub within: u16,
+    pub kind: u8,
+    pub standing: u8,
+    pub length: u32,
+}
+
+#[derive(Clone, Copy)]
+pub struct Sheet {
+    pub(super) open: bool,
+    /// How many of the places are used: the first ones, in order of entry.
+    pub(super) count: u8,
+    /// The tonnage length.
+    pub(super) length: u32,
+    pub(super) spaces: [Space; PLACES],
+    history: History,
+}
+
+/// How many changes are undoable and redoable.
+#[derive(Clone, Copy)]
+pub struct Counts {
+    pub undoable: u8,
+    pub redoable: u8,
+}
+
+impl Sheet {
+    /// A sheet not open.
+    pub const CLOSED: Sheet =
+        Sheet { open: false, count: 0, length: 0, spaces: [Space::NONE; PLACES], history: History::EMPTY };
+
+    /// Opens this one anew with a tonnage length, or closes it.
+    pub fn open(&mut self, length: u32) -> Result<(), Refusal> {
+        self.close();
+        if !is_tonnage_length(length) {
+            return Err(Refusal::OutsideItsRange);
+        }
+        self.open = true;
+        self.length = length;
+        Ok(())
+    }
+
+    pub(super) fn close(&mut self) {
+        self.open = false;
+        self.count = 0;
+        self.length = 0;
+        self.history.clear();
+    }
+
+    /// Enters a space from its offsets; 1 to 10.
+    pub fn enter(&mut self, entry: Entry, heights: &[u32], breadths: &[u32]) -> Result<(), Refusal> {
+        self.opened()?;
+        let standing = Standing::of_code(entry.standing).ok_or(Refusal::OutsideItsRange)?;
+        let kind = Kind::of_code(entry.kind).ok_or(Refusal::OutsideItsRange)?;
+        let tonnage = tonnage(kind, self.length, entry.length, heights, breadths)?;
+        let within = if kind == Kind::Room { entry.within } else { 0 };
+        let mut space = Space { id: entry.id, within, kind, standing, level: 1, tonnage, length: entry.length };
+        space.level = level_of_entry(self.standing(), self.length, &space)?;
+        self.put_last(space);
+        self.history.note(Change::Entered(space));
+        Ok(())
+    }
+
+    /// Strikes out the space with an id; 1, 5, 11.
+    pub fn withdraw(&mut self, id: u16) -> Result<(), Refusal> {
+        self.opened()?;
+        let place = place_to_withdraw(self.standing(), id)?;
+        let space = self.spaces[place];
+        self.take_out(place);
+        self.history.note(Change::Withdrawn { place: place as u8, space });
+        Ok(())
+    }
+
+    /// Gives the space with an id a new standing, even the same one; 1, 2, 5, 6, 8.
+    pub fn mark(&mut self, id: u16, standing: u8) -> Result<(), Refusal> {
+        self.opened()?;
+        let after = Standing::of_code(standing).ok_or(Refusal::OutsideItsRange)?;
+        let place = place_to_mark(self.standing(), id, after)?;
+        let before = self.spaces[place].standing;
+        self.spaces[place].standing = after;
+        self.history.note(Change::Marked { place: place as u8, before, after });
+        Ok(())
+    }
+
+    /// Takes back the latest accepted change not undone; 1, 12.
+    pub fn undo(&mut self) -> Result<(), Refusal> {
+        self.opened()?;
+        match self.history.undone().ok_or(Refusal::NothingOpen)? {
+            Change::Entered(_) => self.count -= 1,
+            Change::Withdrawn { place, space } => self.put_in(place.into(), space),
+            Change::Marked { place, before, .. } => self.spaces[usize::from(place)].standing = before,
+        }
+        Ok(())
+    }
+
+    /// Makes again the change last undone; 1, 12.
+    pub fn redo(&mut self) -> Result<(), Refusal> {
+        self.opened()?;
+        match self.history.redone().ok_or(Refusal::NothingOpen)? {
+            Change::Entered(space) => self.put_last(space),
+            Change::Withdrawn { place, .. } => self.take_out(place.into()),
+            Change::Marked { place, after, .. } => self.spaces[usize::from(place)].standing = after,
+        }
+        Ok(())
+    }
+
+    /// 0 and 0 on a sheet not open.
+    pub fn counts(&self) -> Counts {
+        Counts { undoable: self.history.undoable, redoable: self.history.redoable }
+    }
+
+    /// Gross and net; `justified` is 1 where the surveyor justifies the water ballast, else 0; 1, 2, 13, 14.
+    pub fn report(&self, justified: u8) -> Result<Report, Refusal> {
+        self.opened()?;
+        if justified > 1 {
+            return Err(Refusal::OutsideItsRange);
+        }
+        gross::report(self.standing(), self.length, justified == 1)
+    }
+
+    pub fn is_open(&self) -> bool {
+        self.open
+    }
+
+    /// The tonnage length; 0 on a sheet not open.
+    pub fn tonnage_length(&self) -> u32 {
+        self.length
+    }
+
+    /// The spaces that stand, in order of entry.
+    pub fn standing(&self) -> &[Space] {
+        &self.spaces[..usize::from(self.count)]
+    }
+
+    fn opened(&self) -> Result<(), Refusal> {
+        if self.open {
+            Ok(())
+        } else {
+            Err(Refusal::NotOpen)
+        }
+    }
+
+    fn put_last(&mut self, space: Space) {
+        self.spaces[usize::from(self.count)] = space;
+        self.count += 1;
+    }
+
+    /// Takes a place out; those after it come one place nearer.
+    fn take_out(&mut self, place: usize) {
+        self.spaces.copy_within(place + 1..usize::from(self.count), place);
+        self.count -= 1;
+    }
+
+    /// Puts a space in at a place; those from it on go one place further.
+    fn put_in(&mut self, place: usize, space: Space) {
+        self.spaces.copy_within(place..usize::from(self.count), place + 1);
+        self.spaces[place] = space;
+        self.count += 1;
+    }
+}
