@@ -1,8 +1,8 @@
 # `make run` surveys and lists the example barge, `make examples` does it in C and Rust; `make test` proves and tests everything;
-# `make fuzz N=100` compares fresh scripts.
+# `make fuzz N=100` compares fresh scripts; `make bench` times the calls beside the same calls in plain Rust.
 KIT := rattle-kit-5b logic 064da1ca440f63e7
 
-.PHONY: test run examples fuzz stored kit
+.PHONY: test run examples fuzz bench stored kit
 
 test: kit
 	@rt fmt --check
@@ -17,6 +17,8 @@ test: kit
 	@python3 tools/examples.py
 	@gcc -std=c11 -Wall -Wextra -Wpedantic -Werror -O1 -Iinclude tools/boundary.c target/staticlib/libfummidrake.a -o target/boundary
 	@target/boundary
+	@$(MAKE) --no-print-directory target/bench
+	@target/bench --check
 
 # Proves the library and the programs over it, then plays the example barge's morning and lists the sheet that it wrote.
 run: kit
@@ -33,6 +35,17 @@ N := 20
 fuzz: kit
 	@rt check survey > target/run.log 2>&1 || { cat target/run.log; exit 1; }
 	@python3 tools/fuzz.py $(N)
+
+# Times each call beside the same call in plain Rust, and how both grow with the spaces that stand (docs/PERFORMANCE.md).
+bench: target/bench
+	@target/bench
+
+# Both sides as a release has them: the kit compiles the archive at -O3 for any x86-64, and so is the plain side here.
+target/bench: $(wildcard bench/*.rs bench/plain/*.rs) examples/rust/fummidrake.rs target/staticlib/libfummidrake.a
+	@rustc --edition 2021 -C opt-level=3 -C codegen-units=1 -C target-cpu=x86-64 -L target/staticlib -l static=fummidrake bench/main.rs -o $@
+
+target/staticlib/libfummidrake.a: $(wildcard crates/*/src/*.rt) | kit
+	@rt staticlib fummidrake > target/staticlib.log 2>&1 || { cat target/staticlib.log; exit 1; }
 
 # Writes every stored input and expected output anew, from the second program.
 stored:

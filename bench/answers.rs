@@ -1,0 +1,105 @@
+//! What the calls answer on each side, made comparable.
+use crate::fummidrake as proved;
+use crate::plain::{self, by_value::After};
+
+/// What is seen of an answer: the paper's number, and the values, 0 where there are fewer than three.
+#[derive(Debug, PartialEq)]
+pub struct Seen {
+    pub number: u8,
+    pub values: [u64; 3],
+}
+
+/// An answer to a call on a sheet.
+pub trait Answer<S> {
+    /// Leaves the sheet after the call, and says what was answered.
+    fn settle(self, sheet: &mut S) -> Seen;
+}
+
+impl Seen {
+    fn accepted(values: [u64; 3]) -> Seen {
+        Seen { number: 0, values }
+    }
+
+    fn refused(refusal: plain::Refusal) -> Seen {
+        Seen { number: refusal as u8, values: [0; 3] }
+    }
+}
+
+// What the proved calls answer
+
+impl Answer<proved::Sheet> for proved::Changed {
+    fn settle(self, sheet: &mut proved::Sheet) -> Seen {
+        *sheet = self.sheet;
+        Seen { number: self.number, values: [0; 3] }
+    }
+}
+
+impl Answer<proved::Sheet> for proved::Counted {
+    fn settle(self, sheet: &mut proved::Sheet) -> Seen {
+        *sheet = self.sheet;
+        Seen::accepted([self.undoable as u64, self.redoable as u64, 0])
+    }
+}
+
+impl Answer<proved::Sheet> for proved::Reported {
+    fn settle(self, sheet: &mut proved::Sheet) -> Seen {
+        *sheet = self.sheet;
+        Seen { number: self.number, values: [self.gross, self.net, 0] }
+    }
+}
+
+impl Answer<proved::Sheet> for proved::Written {
+    fn settle(self, sheet: &mut proved::Sheet) -> Seen {
+        *sheet = self.sheet;
+        Seen { number: self.number, values: [self.bytes as u64, 0, 0] }
+    }
+}
+
+impl Answer<proved::Sheet> for proved::Reading {
+    fn settle(self, sheet: &mut proved::Sheet) -> Seen {
+        *sheet = self.sheet;
+        Seen { number: self.number, values: [self.position as u64, self.justified.into(), self.start as u64] }
+    }
+}
+
+// What the plain ones answer
+
+impl<A: Answer<plain::Sheet>> Answer<plain::Sheet> for After<A> {
+    fn settle(self, sheet: &mut plain::Sheet) -> Seen {
+        *sheet = self.sheet;
+        self.answer.settle(sheet)
+    }
+}
+
+impl Answer<plain::Sheet> for Result<(), plain::Refusal> {
+    fn settle(self, _: &mut plain::Sheet) -> Seen {
+        self.map_or_else(Seen::refused, |()| Seen::accepted([0; 3]))
+    }
+}
+
+impl Answer<plain::Sheet> for plain::Counts {
+    fn settle(self, _: &mut plain::Sheet) -> Seen {
+        Seen::accepted([self.undoable.into(), self.redoable.into(), 0])
+    }
+}
+
+impl Answer<plain::Sheet> for Result<plain::Report, plain::Refusal> {
+    fn settle(self, _: &mut plain::Sheet) -> Seen {
+        self.map_or_else(Seen::refused, |report| Seen::accepted([report.gross, report.net, 0]))
+    }
+}
+
+impl Answer<plain::Sheet> for Result<usize, plain::Refusal> {
+    fn settle(self, _: &mut plain::Sheet) -> Seen {
+        self.map_or_else(Seen::refused, |bytes| Seen::accepted([bytes as u64, 0, 0]))
+    }
+}
+
+impl Answer<plain::Sheet> for Result<plain::Read, plain::Unread> {
+    fn settle(self, _: &mut plain::Sheet) -> Seen {
+        match self {
+            Ok(read) => Seen::accepted([0, read.justified.into(), read.start as u64]),
+            Err(unread) => Seen { number: unread.refusal as u8, values: [unread.position as u64, 0, 0] },
+        }
+    }
+}

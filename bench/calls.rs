@@ -1,0 +1,113 @@
+//! The calls, each three times: proved, in plain Rust by value, and in plain Rust in place.
+use crate::desk::{on_each, Call};
+use crate::fummidrake::{self as proved, Entry};
+use crate::plain::{self, by_value};
+use std::hint::black_box;
+use std::rc::Rc;
+
+pub fn open(length: u32) -> Box<dyn Call> {
+    on_each(
+        format!("open {length}"),
+        move |_, _| proved::Sheet::open(length),
+        move |_, _| by_value::open(length),
+        move |sheet, _| sheet.open(length),
+    )
+}
+
+pub fn enter(entry: Entry, heights: Vec<u32>, breadths: Vec<u32>) -> Box<dyn Call> {
+    let Entry { id, within, kind, standing, length } = entry;
+    let name = format!("enter {id} {within} {kind} {standing} {length} {heights:?} {breadths:?}");
+    let same = plain::Entry { id, within, kind, standing, length };
+    let offsets = Rc::new((heights, breadths));
+    let [first, second, third] = [(); 3].map(|()| offsets.clone());
+    on_each(
+        name,
+        move |sheet, _| sheet.enter(entry, &first.0, &first.1),
+        move |sheet, _| by_value::enter(*sheet, same, &second.0, &second.1),
+        move |sheet, _| sheet.enter(same, &third.0, &third.1),
+    )
+}
+
+pub fn withdraw(id: u16) -> Box<dyn Call> {
+    on_each(
+        format!("withdraw {id}"),
+        move |sheet, _| sheet.withdraw(id),
+        move |sheet, _| by_value::withdraw(*sheet, id),
+        move |sheet, _| sheet.withdraw(id),
+    )
+}
+
+pub fn mark(id: u16, standing: u8) -> Box<dyn Call> {
+    on_each(
+        format!("mark {id} {standing}"),
+        move |sheet, _| sheet.mark(id, standing),
+        move |sheet, _| by_value::mark(*sheet, id, standing),
+        move |sheet, _| sheet.mark(id, standing),
+    )
+}
+
+pub fn undo() -> Box<dyn Call> {
+    on_each("undo".into(), |sheet, _| sheet.undo(), |sheet, _| by_value::undo(*sheet), |sheet, _| sheet.undo())
+}
+
+pub fn redo() -> Box<dyn Call> {
+    on_each("redo".into(), |sheet, _| sheet.redo(), |sheet, _| by_value::redo(*sheet), |sheet, _| sheet.redo())
+}
+
+pub fn counts() -> Box<dyn Call> {
+    on_each("counts".into(), |sheet, _| sheet.counts(), |sheet, _| by_value::counts(*sheet), |sheet, _| sheet.counts())
+}
+
+pub fn report(justified: u8) -> Box<dyn Call> {
+    on_each(
+        format!("report {justified}"),
+        move |sheet, _| sheet.report(justified),
+        move |sheet, _| by_value::report(*sheet, justified),
+        move |sheet, _| sheet.report(justified),
+    )
+}
+
+/// Writes the sheet into the buffer, from a byte on.
+pub fn write(justified: u8, at: usize) -> Box<dyn Call> {
+    on_each(
+        format!("write {justified} {at}"),
+        move |sheet, buffer| sheet.write(justified, buffer, at),
+        move |sheet, buffer| by_value::write(*sheet, justified, buffer, at),
+        move |sheet, buffer| sheet.write(justified, buffer, at),
+    )
+}
+
+/// Reads the last sheet of the first `size` bytes of the buffer.
+pub fn read(size: usize) -> Box<dyn Call> {
+    on_each(
+        format!("read the first {size} bytes"),
+        move |_, buffer| proved::read(&buffer[..size]),
+        move |_, buffer| by_value::read(&buffer[..size]),
+        move |sheet, buffer| sheet.read(&buffer[..size]),
+    )
+}
+
+/// Reads the buffer sheet by sheet, the last first, and answers what the last reading did.
+pub fn read_day() -> Box<dyn Call> {
+    on_each(
+        "read sheet by sheet".into(),
+        |_, buffer| sheet_by_sheet(buffer, proved::read, |reading| reading.start),
+        |_, buffer| sheet_by_sheet(buffer, by_value::read, |after| start_of(&after.answer)),
+        |sheet, buffer| sheet_by_sheet(buffer, |file| sheet.read(file), start_of),
+    )
+}
+
+/// To the sheet with which the file begins, or to the first that is refused, since a refused read's start is 0.
+fn sheet_by_sheet<A>(mut file: &[u8], mut read: impl FnMut(&[u8]) -> A, start_of: impl Fn(&A) -> usize) -> A {
+    loop {
+        let answer = read(file);
+        match start_of(black_box(&answer)) {
+            0 => return answer,
+            start => file = &file[..start],
+        }
+    }
+}
+
+fn start_of(answer: &Result<plain::Read, plain::Unread>) -> usize {
+    answer.map_or(0, |read| read.start)
+}

@@ -1,0 +1,218 @@
+//! What is timed, and on which sheets.
+use crate::calls;
+use crate::desk::{Call, Desks};
+use crate::fummidrake::{breadths_at_station, stations, Entry};
+use crate::timing::Times;
+
+/// A call, and the desks on which it is made.
+pub struct Case {
+    pub name: String,
+    pub desks: Desks,
+    pub call: Box<dyn Call>,
+}
+
+const UNDER_DECK: u8 = 1;
+const SUPERSTRUCTURE: u8 = 3;
+const HATCHWAY: u8 = 4;
+const ROOM: u8 = 5;
+const PLAIN: u8 = 0;
+const EXEMPT: u8 = 1;
+
+/// Places for spaces on a sheet.
+pub const PLACES: u16 = 200;
+/// The bytes of a full day's file.
+const DAY: usize = 65_536;
+
+/// The tonnage length of the sheets, and the greatest there is. A U of either has 17 stations.
+const LENGTH: u32 = 30_000;
+const LONGEST: u32 = 150_000;
+const DEEPEST: u32 = 20_000;
+const BROADEST: u32 = 30_000;
+
+// Sheets
+
+/// A sheet of so many spaces, eight deep from ten on, with its last 64 entries undoable.
+pub fn sheet_of(count: u16) -> Result<Desks, String> {
+    let mut desks = Desks::new(DAY);
+    set_up(&mut desks, count)?;
+    Ok(desks)
+}
+
+/// Opens that sheet and enters its spaces.
+fn set_up(desks: &mut Desks, count: u16) -> Result<(), String> {
+    calls::open(LENGTH).accept(desks)?;
+    (1..=count).try_for_each(|id| space(id).accept(desks))
+}
+
+/// The space with an id: a superstructure with nothing in it, the U, and another superstructure with a chain of rooms, the lowest of
+/// which, 9, encloses all the others. Those are exempt, so that a mark has to look at each of them.
+fn space(id: u16) -> Box<dyn Call> {
+    match id {
+        1 | 3 => divided(id, SUPERSTRUCTURE, LENGTH, 300, 933, 1_000),
+        2 => divided(id, UNDER_DECK, LENGTH, LENGTH, 1_700, 500),
+        4..=9 => undivided(Entry { id, within: id - 1, kind: ROOM, standing: PLAIN, length: 500 }, 500, 1_000),
+        _ => undivided(Entry { id, within: 9, kind: ROOM, standing: EXEMPT, length: 100 }, 100, 100),
+    }
+}
+
+/// Enters a U or an S that is as high and as broad at every station.
+fn divided(id: u16, kind: u8, tonnage_length: u32, length: u32, height: u32, breadth: u32) -> Box<dyn Call> {
+    let heights = vec![height; stations(kind, tonnage_length, length)];
+    let breadths = vec![breadth; heights.len() * breadths_at_station(kind, height)];
+    calls::enter(Entry { id, kind, length, ..Entry::default() }, heights, breadths)
+}
+
+fn undivided(entry: Entry, height: u32, breadth: u32) -> Box<dyn Call> {
+    calls::enter(entry, vec![height], vec![breadth])
+}
+
+/// The bytes of a sheet of so many spaces.
+pub fn size_of_sheet(count: u16) -> usize {
+    16 * usize::from(count) + 28
+}
+
+// Cases
+
+impl Case {
+    /// Makes the call once, on copies of the desks.
+    pub fn compare(&self) -> Result<(), String> {
+        self.call.accept(&mut self.desks.clone())
+    }
+
+    pub fn compare_and_time(&mut self) -> Result<Times, String> {
+        self.compare()?;
+        Ok(self.call.time(&mut self.desks))
+    }
+
+    fn new(name: impl Into<String>, desks: Desks, call: Box<dyn Call>) -> Case {
+        Case { name: name.into(), desks, call }
+    }
+
+    /// A call on a sheet of so many spaces.
+    fn on(name: impl Into<String>, count: u16, call: Box<dyn Call>) -> Result<Case, String> {
+        Ok(Case::new(name, sheet_of(count)?, call))
+    }
+
+    /// The same, after other calls.
+    fn after(mut self, earlier: &[Box<dyn Call>]) -> Result<Case, String> {
+        earlier.iter().try_for_each(|call| call.accept(&mut self.desks))?;
+        Ok(self)
+    }
+}
+
+fn enter_hatchway(count: u16) -> Result<Case, String> {
+    let hatchway = Entry { id: 9_999, kind: HATCHWAY, length: 500, ..Entry::default() };
+    Case::on(format!("enter a hatchway on {count} spaces"), count, undivided(hatchway, 500, 400))
+}
+
+fn enter_last(count: u16) -> Result<Case, String> {
+    Case::on(format!("enter the last of {count}, at level 8"), count - 1, space(count))
+}
+
+fn mark_plain(id: u16) -> Result<Case, String> {
+    Case::on(format!("mark the {} of {PLACES} plain", end(id, PLACES)), PLACES, calls::mark(id, PLAIN))
+}
+
+fn mark_exempt(id: u16, count: u16) -> Result<Case, String> {
+    Case::on(format!("mark the {} of {count} exempt", end(id, count)), count, calls::mark(id, EXEMPT))
+}
+
+fn withdraw(id: u16, count: u16) -> Result<Case, String> {
+    Case::on(format!("withdraw the {} of {count}", end(id, count)), count, calls::withdraw(id))
+}
+
+fn undo(id: u16) -> Result<Case, String> {
+    let name = format!("undo a withdrawal of the {} of {PLACES}", end(id, PLACES));
+    Case::on(name, PLACES, calls::undo())?.after(&[calls::withdraw(id)])
+}
+
+fn redo(id: u16) -> Result<Case, String> {
+    let name = format!("redo a withdrawal of the {} of {PLACES}", end(id, PLACES));
+    Case::on(name, PLACES, calls::redo())?.after(&[calls::withdraw(id), calls::undo()])
+}
+
+fn report(count: u16) -> Result<Case, String> {
+    Case::on(format!("report {count} spaces"), count, calls::report(0))
+}
+
+fn write(count: u16) -> Result<Case, String> {
+    Case::on(format!("write {count} spaces"), count, calls::write(0, 0))
+}
+
+fn read(count: u16) -> Result<Case, String> {
+    Case::on(format!("read {count} spaces"), count, calls::read(size_of_sheet(count)))?.after(&[calls::write(0, 0)])
+}
+
+/// The largest U that the rules allow, on a sheet just opened.
+fn largest_under_deck() -> Result<Case, String> {
+    let largest = divided(1, UNDER_DECK, LONGEST, LONGEST, DEEPEST, BROADEST);
+    Case::on("tonnage of the largest U", 0, largest)?.after(&[calls::open(LONGEST)])
+}
+
+/// 20 full sheets; four small ones ahead of them make the bytes exactly a full day's.
+fn full_day() -> Result<Case, String> {
+    let mut day = Case::new("read back a full day's file", Desks::new(DAY), calls::read_day());
+    let mut at = 0;
+    for count in [13, 13, 14, 14].into_iter().chain([PLACES; 20]) {
+        set_up(&mut day.desks, count)?;
+        calls::write(0, at).accept(&mut day.desks)?;
+        at += size_of_sheet(count);
+    }
+    assert_eq!(at, DAY);
+    Ok(day)
+}
+
+/// Which end of the order an id stands at.
+fn end(id: u16, count: u16) -> &'static str {
+    if id == count {
+        "last"
+    } else {
+        "first"
+    }
+}
+
+/// The calls that are timed.
+pub fn cases() -> Result<Vec<Case>, String> {
+    [
+        enter_hatchway(0),
+        enter_hatchway(100),
+        enter_hatchway(PLACES - 1),
+        enter_last(PLACES),
+        mark_plain(1),
+        mark_plain(PLACES),
+        mark_exempt(1, PLACES),
+        mark_exempt(PLACES, PLACES),
+        withdraw(1, PLACES),
+        withdraw(PLACES, PLACES),
+        undo(1),
+        undo(PLACES),
+        redo(1),
+        redo(PLACES),
+        Case::on("counts", PLACES, calls::counts()),
+        report(20),
+        report(PLACES),
+        write(20),
+        write(PLACES),
+        read(20),
+        read(PLACES),
+        largest_under_deck(),
+        full_day(),
+    ]
+    .into_iter()
+    .collect()
+}
+
+/// A call whose cost depends on how many spaces stand.
+pub struct Growing {
+    pub name: &'static str,
+    pub with: fn(u16) -> Result<Case, String>,
+}
+
+pub const GROWING: [Growing; 6] = [
+    Growing { name: "enter the last", with: enter_last },
+    Growing { name: "mark the last exempt", with: |count| mark_exempt(count, count) },
+    Growing { name: "withdraw the first", with: |count| withdraw(1, count) },
+    Growing { name: "report", with: report },
+    Growing { name: "write", with: write },
+    Growing { name: "read", with: read },
+];
