@@ -9,9 +9,10 @@ pub struct Times {
     pub in_place: f64,
 }
 
-const BATCHES: usize = 51;
+/// Many short batches: few of them meet another program's turn at the processor, and the median is of one that doesn't.
+const BATCHES: usize = 301;
 /// A batch has as many calls as the proved side makes in this time.
-const BATCH: Duration = Duration::from_millis(1);
+const BATCH: Duration = Duration::from_micros(100);
 
 impl Times {
     /// From what makes a number of calls on each side and takes their time.
@@ -38,7 +39,7 @@ impl Times {
 }
 
 fn calls_a_batch(take_time: &mut impl FnMut(u32) -> Duration) -> u32 {
-    let mut calls = COPIES;
+    let mut calls = 1;
     while take_time(calls) < BATCH {
         calls *= 2;
     }
@@ -60,18 +61,21 @@ pub fn by_value<S, A>(calls: u32, sheet: &S, mut call: impl FnMut(&S) -> A) -> D
 }
 
 /// So many sheets lie in the processor's nearest memory.
-const COPIES: u32 = 8;
+const COPIES: usize = 8;
 
 /// The time of calls that each change a sheet in place. Each has its own copy of the sheet, made before the clock is read; what reading
 /// it takes is left out.
 pub fn in_place<S: Copy, A>(calls: u32, sheet: &S, mut call: impl FnMut(&mut S) -> A) -> Duration {
     let clock = (0..COPIES).map(|_| Instant::now().elapsed()).min().unwrap_or_default();
     let mut taken = Duration::ZERO;
-    for _ in 0..calls / COPIES {
-        let mut copies = [*sheet; COPIES as usize];
-        black_box(&mut copies);
+    let mut left = calls as usize;
+    while left > 0 {
+        let mut copies = [*sheet; COPIES];
+        let used = &mut copies[..left.min(COPIES)];
+        left -= used.len();
+        black_box(&mut *used);
         let start = Instant::now();
-        for copy in &mut copies {
+        for copy in used {
             black_box(&call(black_box(copy)));
         }
         taken += start.elapsed().saturating_sub(clock);

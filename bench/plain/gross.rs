@@ -12,7 +12,7 @@ pub struct Report {
 /// The sums over the standing spaces.
 #[derive(Default)]
 struct Sums {
-    under_deck_lengths: u32,
+    under_deck_lengths: u64,
     hull: u64,
     hatchways: u64,
     exempt: u64,
@@ -21,18 +21,18 @@ struct Sums {
 }
 
 impl Sums {
-    /// One way along the row. Every sum takes an amount or 0 of each space: no branch then depends on what stands where.
+    /// One way along the row. Each sum takes an amount or 0 of every space, so that no branch depends on what stands where.
     fn over(spaces: &[Space]) -> Sums {
+        let only = |counts: bool, amount: u32| if counts { u64::from(amount) } else { 0 };
         let mut sums = Sums::default();
-        for space in spaces {
-            let tonnage_if = |counts: bool| if counts { u64::from(space.tonnage) } else { 0 };
-            let is_hull = matches!(space.kind, Kind::UnderDeck | Kind::BetweenDeck | Kind::Superstructure);
-            sums.under_deck_lengths += if space.kind == Kind::UnderDeck { space.length } else { 0 };
-            sums.hull += tonnage_if(is_hull);
-            sums.hatchways += tonnage_if(space.kind == Kind::Hatchway);
-            sums.exempt += tonnage_if(space.standing == Standing::Exempt);
-            sums.ballast += tonnage_if(space.standing == Standing::Ballast);
-            sums.deducted += tonnage_if(space.standing == Standing::Deducted);
+        for Space { kind, standing, tonnage, length, .. } in spaces.iter().copied() {
+            let is_hull = matches!(kind, Kind::UnderDeck | Kind::BetweenDeck | Kind::Superstructure);
+            sums.under_deck_lengths += only(kind == Kind::UnderDeck, length);
+            sums.hull += only(is_hull, tonnage);
+            sums.hatchways += only(kind == Kind::Hatchway, tonnage);
+            sums.exempt += only(standing == Standing::Exempt, tonnage);
+            sums.ballast += only(standing == Standing::Ballast, tonnage);
+            sums.deducted += only(standing == Standing::Deducted, tonnage);
         }
         sums
     }
@@ -51,7 +51,7 @@ impl Sums {
 /// Gross and net of the spaces of a sheet with a tonnage length, or refusal 13 or 14.
 pub fn report(spaces: &[Space], tonnage_length: u32, justified: bool) -> Result<Report, Refusal> {
     let sums = Sums::over(spaces);
-    if sums.under_deck_lengths != tonnage_length {
+    if sums.under_deck_lengths != u64::from(tonnage_length) {
         return Err(Refusal::LengthsDiffer);
     }
     if !justified && sums.ballast_over() {
