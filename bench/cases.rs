@@ -2,7 +2,7 @@
 use crate::calls;
 use crate::desk::{Call, Desks};
 use crate::fummidrake::{breadths_at_station, stations, Entry};
-use crate::timing::Times;
+use crate::timing::Side;
 
 /// A call, and the desks on which it is made.
 pub struct Case {
@@ -79,9 +79,8 @@ impl Case {
         self.call.accept(&mut self.desks.clone())
     }
 
-    pub fn compare_and_time(&mut self) -> Result<Times, String> {
-        self.compare()?;
-        Ok(self.call.time(&mut self.desks))
+    pub fn sides(&mut self) -> [Side<'_>; 3] {
+        self.call.sides(&mut self.desks)
     }
 
     fn new(name: impl Into<String>, desks: Desks, call: Box<dyn Call>) -> Case {

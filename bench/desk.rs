@@ -2,7 +2,7 @@
 use crate::answers::Answer;
 use crate::fummidrake as proved;
 use crate::plain;
-use crate::timing::{self, Times};
+use crate::timing::{self, Side};
 use std::fmt::Debug;
 
 /// A sheet, and a buffer for the day's file.
@@ -27,8 +27,8 @@ pub trait Call {
     /// Makes it on each desk, and answers the number of refusal. An error says where the desks differ then.
     fn make(&self, desks: &mut Desks) -> Result<u8, String>;
 
-    /// How long it takes, always on the sheets as they lie there.
-    fn time(&self, desks: &mut Desks) -> Times;
+    /// What makes it again and again for the clock, on the sheets as they lie there: proved, by value and in place.
+    fn sides<'a>(&'a self, desks: &'a mut Desks) -> [Side<'a>; 3];
 
     /// Makes it where it has to be accepted.
     fn accept(&self, desks: &mut Desks) -> Result<(), String> {
@@ -130,13 +130,13 @@ where
         number.map_err(|difference| format!("{}: {difference}", self.name))
     }
 
-    fn time(&self, desks: &mut Desks) -> Times {
+    fn sides<'a>(&'a self, desks: &'a mut Desks) -> [Side<'a>; 3] {
         let Desks { proved, by_value, in_place } = desks;
-        Times::of(
-            |calls| timing::by_value(calls, &proved.sheet, |sheet| (self.proved)(sheet, &mut proved.buffer)),
-            |calls| timing::by_value(calls, &by_value.sheet, |sheet| (self.by_value)(sheet, &mut by_value.buffer)),
-            |calls| timing::in_place(calls, &in_place.sheet, |sheet| (self.in_place)(sheet, &mut in_place.buffer)),
-        )
+        [
+            timing::by_value(&proved.sheet, |sheet| (self.proved)(sheet, &mut proved.buffer)),
+            timing::by_value(&by_value.sheet, |sheet| (self.by_value)(sheet, &mut by_value.buffer)),
+            timing::in_place(&in_place.sheet, |sheet| (self.in_place)(sheet, &mut in_place.buffer)),
+        ]
     }
 }
 

@@ -16,7 +16,7 @@ mod timing;
 
 use cases::{cases, Case, GROWING};
 use std::process::ExitCode;
-use timing::Times;
+use timing::{times, Times};
 
 /// How many spaces stand in the second table.
 const COUNTS: [u16; 4] = [25, 50, 100, 200];
@@ -24,7 +24,8 @@ const COUNTS: [u16; 4] = [25, 50, 100, 200];
 fn print_cases() -> Result<(), String> {
     println!("{:44}{:>10}{:>10}{:>8}{:>10}", "nanoseconds a call", "proved", "plain", "ratio", "in place");
     for mut case in cases()? {
-        let times = case.compare_and_time()?;
+        case.compare()?;
+        let times = times(vec![case.sides()]).remove(0);
         let Times { proved, by_value, in_place } = times;
         println!("{:44}{proved:10.0}{by_value:10.0}{:8.2}{in_place:10.0}", case.name, times.ratio());
     }
@@ -36,8 +37,9 @@ fn print_growth() -> Result<(), String> {
     COUNTS.iter().for_each(|count| print!("{count:10}"));
     println!("{:>10}", "growth");
     for call in GROWING {
-        let times = COUNTS.map(|count| (call.with)(count)?.compare_and_time());
-        let times: Vec<Times> = times.into_iter().collect::<Result<_, _>>()?;
+        let mut cases: Vec<Case> = COUNTS.into_iter().map(call.with).collect::<Result<_, _>>()?;
+        cases.iter().try_for_each(Case::compare)?;
+        let times = times(cases.iter_mut().map(Case::sides).collect());
         print_row(call.name, "proved", times.iter().map(|times| times.proved));
         print_row("", "plain", times.iter().map(|times| times.by_value));
         print_row("", "in place", times.iter().map(|times| times.in_place));
