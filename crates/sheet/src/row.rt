@@ -36,7 +36,8 @@ pub(crate) fn without_place(spaces: [Space; 200], count: usize, p: usize) -> [Sp
     row
 }
 
-// A space put in at the place p, and those from p on each one place further, read off the row as it came: so all move at once.
+// A space put in at the place p, and those from p on each one place further: read off the row as it came, so that all move
+// at once.
 pub(crate) fn with_place(spaces: [Space; 200], count: usize, p: usize, x: Space) -> [Space; 200]
     requires { ⌜ (count < 200) × (p ≤ count) ⌝ }
     ensures { λ r. ⌜ r ≡ paste spaces p (x ∷ drop p spaces) (count + 1 - p) ⌝ }

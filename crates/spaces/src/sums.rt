@@ -1,4 +1,4 @@
-// The sums that the paper takes over the standing spaces: one by one, those of a report at once, and what a space adds to each.
+// The sums that the paper takes over the standing spaces: what a space adds to each, one sum, and those of a report at once.
 use crate::row::used;
 use crate::space::BETWEEN_DECK;
 use crate::space::HATCHWAY;

@@ -1,5 +1,4 @@
 -- `enclosure::all_above` meets its contract.
-use mathlib.Core.Path.{sym, ap, _∙_}
 use borrow.Author.Needs.{needs}
 use Rattle.spaces.proofs.enclosure.all_above.Statement.{statement}
 use Rattle.spaces.proofs.enclosure.all_above.Tie as tie
