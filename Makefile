@@ -2,18 +2,30 @@
 # `make fuzz N=100` compares fresh scripts; `make bench` times the calls beside the same calls in plain Rust.
 KIT := rattle-kit-5b logic 064da1ca440f63e7
 
-.PHONY: test run examples fuzz bench stored kit
+.PHONY: test proofs reference-tests listings linked run examples fuzz bench stored kit
 
 test: kit
 	@rt fmt --check
 	@python3 tools/promises.py
 	@python3 tools/mapped.py
 	@python3 tools/header.py
+	@$(MAKE) --no-print-directory -j2 proofs reference-tests
+	@python3 tools/edits.py
+	@$(MAKE) --no-print-directory -j2 listings linked
+
+# The parts of the test: every proof and edit from nothing, beside the second program's own tests; then the listings, beside what
+# links the archive.
+proofs:
+	@rt ci
+
+reference-tests:
 	@python3 -m unittest discover -q -s reference -t .
 	@python3 tools/stored.py --check
-	@rt ci
-	@python3 tools/edits.py
+
+listings:
 	@python3 tools/lists.py > target/lists.log || { cat target/lists.log; exit 1; }
+
+linked:
 	@python3 tools/examples.py
 	@gcc -std=c11 -Wall -Wextra -Wpedantic -Werror -O1 -Iinclude tools/boundary.c target/staticlib/libfummidrake.a -o target/boundary
 	@target/boundary

@@ -8,7 +8,7 @@ use lib.Dec.{eqb, ltb}
 use lib.ListN.{length, getD}
 use Rattle.measure.specs.Refusals.{firstOf}
 use Rattle.spaces.specs.Space.{emptySpace, isUnderDeck, isRoom, isPlain, mayTake}
-use Rattle.spaces.specs.Row.{placeOf, isSome, sumOf}
+use Rattle.spaces.specs.Row.{placeOf, isSome, amountOf, sumOf}
 use Rattle.spaces.specs.Enclosure.{allPlain}
 use Rattle.spaces.specs.Rules.{inHatchway}
 use Rattle.spaces.specs.declared.space.Space.{Space}
@@ -39,6 +39,27 @@ pub record AreTotals (xs : List Space) (sums : Totals) : Type 0 where
   pub exempt : IsSum Exempt xs (sums .exempt)
   pub ballast : IsSum Ballast xs (sums .ballast)
   pub deducted : IsSum Deducted xs (sums .deducted)
+
+-- sums small enough that one space more fits
+pub record FewSpaces (sums : Totals) : Type 0 where
+  pub lengths : sums .lengths ≤ 200 * 2 ^ 32
+  pub hull : sums .hull ≤ 200 * 2 ^ 32
+  pub hatchways : sums .hatchways ≤ 200 * 2 ^ 32
+  pub exempt : sums .exempt ≤ 200 * 2 ^ 32
+  pub ballast : sums .ballast ≤ 200 * 2 ^ 32
+  pub deducted : sums .deducted ≤ 200 * 2 ^ 32
+
+-- a sum with what a space adds to it, and sums with one space more
+abbrev pub Adds : Amount → Space → ℕ → ℕ → Type 0
+Adds which x before after = (after ≡ before + amountOf which x) × (after < before + 2 ^ 32)
+
+pub record AddedTo (sums : Totals) (x : Space) (after : Totals) : Type 0 where
+  pub lengths : Adds Lengths x (sums .lengths) (after .lengths)
+  pub hull : Adds Hull x (sums .hull) (after .hull)
+  pub hatchways : Adds Hatchways x (sums .hatchways) (after .hatchways)
+  pub exempt : Adds Exempt x (sums .exempt) (after .exempt)
+  pub ballast : Adds Ballast x (sums .ballast) (after .ballast)
+  pub deducted : Adds Deducted x (sums .deducted) (after .deducted)
 
 -- ---- walks and places
 
@@ -87,6 +108,10 @@ standingsOf xs = column (λ (x : Space). x .standing) xs
 abbrev pub placeIn : ℕ → List ℕ → ℕ
 placeIn id [] = 0
 placeIn id (x ∷ xs) = cond (eqb x id) 0 (suc (placeIn id xs))
+
+-- a row of numbers that has, at each space's own place, the first place of its id
+abbrev pub OwnPlaces : List Space → List ℕ → Type 0
+OwnPlaces xs places = (i : ℕ) → i < length xs → getD places i 0 ≡ placeOf (getD xs i emptySpace .id) xs
 
 -- an index of ids: at each id that it reaches the place of that id
 abbrev pub Indexed : List ℕ → List ℕ → Type 0

@@ -5,6 +5,7 @@ use crate::index::index_ids;
 use crate::index::place_by;
 use crate::row::Found;
 use crate::row::find;
+use crate::row::place_of;
 use crate::row::used;
 use crate::space::ROOM;
 use crate::space::Space;
@@ -16,7 +17,7 @@ ghost use lib.ListN.{length, take};
 ghost use Rattle.spaces.specs.Space.{isRoom, isPlain};
 ghost use Rattle.spaces.specs.Row.{foundAs};
 ghost use Rattle.spaces.specs.Enclosure.{enclosing as enclosingIn, onward, upward, allPlain, below};
-ghost use Rattle.spaces.specs.Handed.{searched, walked, pastOf, climbed, EnclosingPlaces, leadsTo, idsOf, placeIn, Indexed};
+ghost use Rattle.spaces.specs.Handed.{searched, walked, pastOf, climbed, EnclosingPlaces, leadsTo, placeIn, Indexed};
 
 // What a walk upward met: how many spaces, and whether all are plain.
 pub struct Above {
@@ -132,11 +133,8 @@ pub(crate) fn plain_below(spaces: [Space; 200], count: usize, id: u16) -> bool
     ensures { λ r. ⌜ r ≡ allPlain (below id (take count spaces)) ⌝ }
 {
     let n = used(count);
-    let ids = ids_of(spaces);
-    let mut index = [n as u8; 10000];
-    index_ids(&ids, n, &mut index);
-    let places = enclosing_places(spaces, n, &index, &ids);
-    let to = place_by(&index, &ids, n, id);
+    let places = enclosing_places(spaces, n);
+    let to = place_of(spaces, count, id);
     let mut i = 0;
     while i < n {
         let y = spaces[i];
@@ -149,20 +147,18 @@ pub(crate) fn plain_below(spaces: [Space; 200], count: usize, id: u16) -> bool
 }
 
 // The place of the enclosing space of each of the first n.
-pub(crate) fn enclosing_places(
-    spaces: [Space; 200],
-    n: usize,
-    index: &[u8],
-    ids: &[u16],
-) -> [usize; 200]
-    requires { ⌜ (n ≤ 200) × (now ids ≡ idsOf spaces) × Indexed (take n (now ids)) (now index) ⌝ }
+pub(crate) fn enclosing_places(spaces: [Space; 200], n: usize) -> [usize; 200]
+    requires { ⌜ n ≤ 200 ⌝ }
     ensures { λ r. ⌜ EnclosingPlaces (take n spaces) r ⌝ }
 {
+    let ids = ids_of(spaces);
+    let mut index = [n as u8; 10000];
+    index_ids(&ids, n, &mut index);
     let mut places = [0usize; 200];
     let mut i = 0;
     while i < n {
         let x = spaces[i];
-        places[i] = enclosing_place(x, index, ids, n);
+        places[i] = enclosing_place(x, &index, &ids, n);
         i += 1;
     }
     places

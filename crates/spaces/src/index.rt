@@ -5,7 +5,7 @@ ghost use mathlib.Core.Path.{_≡_};
 ghost use mathlib.Core.List.{List};
 ghost use Prim.Native.Nat.{_≤_};
 ghost use lib.ListN.{length, take, replicate};
-ghost use Rattle.spaces.specs.Handed.{idsOf, standingsOf, placeIn, Indexed};
+ghost use Rattle.spaces.specs.Handed.{idsOf, standingsOf, placeIn, Indexed, OwnPlaces};
 
 // The ids of the spaces, in their order.
 pub(crate) fn ids_of(spaces: [Space; 200]) -> [u16; 200]
@@ -76,4 +76,22 @@ fn place_in(ids: &[u16], n: usize, id: u16) -> usize
         i += 1;
     }
     n
+}
+
+// The place at which the id of each of the first n spaces stands first.
+pub(crate) fn own_places(spaces: [Space; 200], n: usize) -> [usize; 200]
+    requires { ⌜ n ≤ 200 ⌝ }
+    ensures { λ r. ⌜ OwnPlaces (take n spaces) r ⌝ }
+{
+    let ids = ids_of(spaces);
+    let mut index = [n as u8; 10000];
+    index_ids(&ids, n, &mut index);
+    let mut places = [0usize; 200];
+    let mut i = 0;
+    while i < n {
+        let id = ids[i];
+        places[i] = place_by(&index, &ids, n, id);
+        i += 1;
+    }
+    places
 }

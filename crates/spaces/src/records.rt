@@ -3,9 +3,7 @@
 use crate::enclosure::LEVELS;
 use crate::enclosure::climb;
 use crate::enclosure::enclosing_places;
-use crate::index::ids_of;
-use crate::index::index_ids;
-use crate::index::place_by;
+use crate::index::own_places;
 use crate::index::standings_of;
 use crate::row::Found;
 use crate::row::least;
@@ -92,10 +90,8 @@ pub fn first_refused(records: [Space; 200], count: usize, tonnage_length: u32) -
     ensures { λ r. ⌜ r ≡ firstRefused «tonnage_length» [] (take count records) ⌝ }
 {
     let n = used(count);
-    let ids = ids_of(records);
-    let mut index = [n as u8; 10000];
-    index_ids(&ids, n, &mut index);
-    let places = enclosing_places(records, n, &index, &ids);
+    let places = enclosing_places(records, n);
+    let owns = own_places(records, n);
     let standings = standings_of(records);
     let mut inside = [0u64; 201];
     let mut lengths: u64 = 0;
@@ -106,7 +102,7 @@ pub fn first_refused(records: [Space; 200], count: usize, tonnage_length: u32) -
         let z = records[least(home, i)];
         let up = climb(&places, &standings, i, i, LEVELS);
         let around = Around {
-            taken: place_by(&index, &ids, n, x.id) < i,
+            taken: owns[i] < i,
             levels: up.levels,
             plain: up.plain,
             beside: beside(x, inside[home], lengths),

@@ -13,7 +13,7 @@ ghost use lib.Dec.{eqb};
 ghost use lib.ListN.{take};
 ghost use Rattle.spaces.specs.Space.{isRoom, isHull};
 ghost use Rattle.spaces.specs.Row.{only as onlyOf, amountOf};
-ghost use Rattle.spaces.specs.Handed.{IsSum, AreTotals};
+ghost use Rattle.spaces.specs.Handed.{IsSum, AreTotals, FewSpaces, AddedTo};
 
 pub enum Amount {
     // The tonnages of the rooms directly inside the space with an id, and their number.
@@ -101,29 +101,34 @@ pub(crate) fn total_up(spaces: [Space; 200], count: usize) -> Totals
     ensures { λ r. ⌜ AreTotals (take count spaces) r ⌝ }
 {
     let n = used(count);
-    let mut lengths: u64 = 0;
-    let mut hull: u64 = 0;
-    let mut hatchways: u64 = 0;
-    let mut exempt: u64 = 0;
-    let mut ballast: u64 = 0;
-    let mut deducted: u64 = 0;
+    let mut sums = Totals {
+        lengths: 0,
+        hull: 0,
+        hatchways: 0,
+        exempt: 0,
+        ballast: 0,
+        deducted: 0,
+    };
     let mut i = 0;
     while i < n {
         let x = spaces[i];
-        lengths += share(Amount::Lengths, x);
-        hull += share(Amount::Hull, x);
-        hatchways += share(Amount::Hatchways, x);
-        exempt += share(Amount::Exempt, x);
-        ballast += share(Amount::Ballast, x);
-        deducted += share(Amount::Deducted, x);
+        sums = with_space(sums, x);
         i += 1;
     }
+    sums
+}
+
+// The sums with one space more.
+fn with_space(sums: Totals, x: Space) -> Totals
+    requires { ⌜ FewSpaces sums ⌝ }
+    ensures { λ r. ⌜ AddedTo sums x r ⌝ }
+{
     Totals {
-        lengths,
-        hull,
-        hatchways,
-        exempt,
-        ballast,
-        deducted,
+        lengths: sums.lengths + share(Amount::Lengths, x),
+        hull: sums.hull + share(Amount::Hull, x),
+        hatchways: sums.hatchways + share(Amount::Hatchways, x),
+        exempt: sums.exempt + share(Amount::Exempt, x),
+        ballast: sums.ballast + share(Amount::Ballast, x),
+        deducted: sums.deducted + share(Amount::Deducted, x),
     }
 }

@@ -5,10 +5,12 @@ use mathlib.Core.Path.{_≡_, refl, sym, ap, ap₂, _∙_}
 use mathlib.Core.Bool.{Bool, true, false, cond}
 use mathlib.Core.List.{List, [], _∷_}
 use mathlib.Core.Option.{Option, none, some}
+use native.Mathlib.Nat.{min-le-left, min-le-right}
 use native.Mathlib.Omega.{arith}
 use borrow.Author.Tests.{ltb-true, ltb-false, lt-ltb, le-ltb, eqb-true}
 use lib.Dec.{eqb, ltb}
-use lib.ListN.{length, take, getD}
+use lib.ListN.{length, take, getD, length-take}
+use lib.Seq.{getD-take}
 use Rattle.spaces.specs.Space.{emptySpace, isRoom}
 use Rattle.spaces.specs.Row.{find, placeOf, isSome, stands}
 use Rattle.spaces.specs.Enclosure.{enclosing, upward, onward}
@@ -17,6 +19,7 @@ use Rattle.spaces.specs.declared.space.Space.{Space}
 use Rattle.spaces.specs.declared.enclosure.Above.{Above}
 use Rattle.spaces.proofs.laws.Cases.{by-test}
 use Rattle.spaces.proofs.laws.Enclosure.{upward-none, upward-next, walked-past}
+use Rattle.spaces.proofs.laws.Index.{column-at}
 
 -- ---- among the first i spaces
 
@@ -101,7 +104,7 @@ climbed-walk xs places standings each stand i h (suc left) at l =
 
 -- the standings of all the places, at those of the first n
 pub standing-there : (spaces : List Space) (n p : ℕ) → p < length (take n spaces) → getD (standingsOf spaces) p 0 ≡ getD (take n spaces) p emptySpace .standing
-standing-there spaces zero p h = absurd (omega arith)
-standing-there [] (suc n) p h = absurd (omega arith)
-standing-there (x ∷ spaces) (suc n) zero h = refl
-standing-there (x ∷ spaces) (suc n) (suc p) h = standing-there spaces n p (omega arith)
+standing-there spaces n p h =
+    let l = length-take n spaces in
+    column-at (λ (x : Space). x .standing) spaces p (omega (arith, min-le-right n (length spaces)))
+    ∙ ap (λ (x : Space). x .standing) (sym (getD-take n spaces p emptySpace (omega (arith, min-le-left n (length spaces)))))

@@ -32,6 +32,11 @@ module _ (f : Space → ℕ) where
   column-length [] = refl
   column-length (x ∷ xs) = ap suc (column-length xs)
 
+  pub column-at : (xs : List Space) (i : ℕ) → i < length xs → getD (column f xs) i 0 ≡ f (getD xs i emptySpace)
+  column-at [] i h = absurd (omega arith)
+  column-at (x ∷ xs) zero h = refl
+  column-at (x ∷ xs) (suc i) h = column-at xs i (omega arith)
+
   -- a space more
   pub column-more : (xs : List Space) (row : List ℕ) (i : ℕ) → i < length xs → i < length row → take i row ≡ column f (take i xs)
       → take (i + 1) (set row i (f (getD xs i emptySpace))) ≡ column f (take (i + 1) xs)

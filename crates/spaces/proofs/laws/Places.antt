@@ -84,13 +84,13 @@ enclosed-at : (xs : List Space) (x : Space) {z : Space} → enclosing xs x ≡ s
 enclosed-at xs x {z} e =
     by-test (isRoom x) (λ r. (rw r, placed (x .within) xs {z = z} (rw r at e))) (λ r. none-not-some refl (rw r at e))
 
--- the first k of a row of these, and one more
-abbrev pub FirstPlaces : List Space → ℕ → List ℕ → Type 0
-FirstPlaces xs k places = (j : ℕ) → j < k → getD places j 0 ≡ enclosingPlace xs (getD xs j emptySpace)
+-- the first k of a row of places, and one more
+abbrev pub FirstPlaces : (ℕ → ℕ) → ℕ → List ℕ → Type 0
+FirstPlaces place k places = (j : ℕ) → j < k → getD places j 0 ≡ place j
 
-pub one-more-place : (xs : List Space) (places : List ℕ) (k p : ℕ) → k < length places → p ≡ enclosingPlace xs (getD xs k emptySpace)
-    → FirstPlaces xs k places → FirstPlaces xs (k + 1) (set places k p)
-one-more-place xs places k p h e first j l =
+pub one-more-place : (place : ℕ → ℕ) (places : List ℕ) (k p : ℕ) → k < length places → p ≡ place k
+    → FirstPlaces place k places → FirstPlaces place (k + 1) (set places k p)
+one-more-place place places k p h e first j l =
     by-test (ltb j k)
     (λ t. let b = ltb-true j k t in getD-set-other places k j p 0 (λ q. omega arith) ∙ first j b)
     (λ f. let q : j ≡ k = omega (arith, ltb-false j k f) in rw q (getD-set-same places k p 0 h ∙ e))

@@ -7,10 +7,16 @@ use native.Mathlib.Omega.{arith}
 use lib.ListN.{length, take, drop, getD}
 use Rattle.spaces.specs.Space.{emptySpace}
 use Rattle.spaces.specs.Row.{used, amountOf, sumOf}
-use Rattle.spaces.specs.Handed.{IsSum}
+use Rattle.spaces.specs.Handed.{IsSum, Adds, FewSpaces}
 use Rattle.spaces.specs.declared.space.Space.{Space}
 use Rattle.spaces.specs.declared.sums.Amount.{Amount}
+use Rattle.spaces.specs.declared.sums.Amount.the-variants.{Lengths, Hull, Hatchways, Exempt, Ballast, Deducted}
+use Rattle.spaces.specs.declared.sums.Totals.{Totals}
 use Rattle.spaces.proofs.laws.Row.{standing-step, standing-end}
+
+-- a share added
+pub added : (which : Amount) (x : Space) (sum share : ℕ) → (share ≡ amountOf which x) × (share < 2 ^ 32) → Adds which x sum (sum + share)
+added which x sum share e = (ap (λ (n : ℕ). sum + n) (e .0), omega (arith, e .1))
 
 -- the sum of the first i spaces
 pub record SoFar (which : Amount) (xs : List Space) (i sum : ℕ) : Type 0 where
@@ -22,9 +28,9 @@ none-yet which xs = record { whole = zero-add _; small = omega arith }
 
 module _ (which : Amount) (spaces : List Space) (count : ℕ) (full : length spaces ≡ 200) where
   -- one space more
-  pub one-more : {i sum share : ℕ} → i < used count → (share ≡ amountOf which (getD spaces i emptySpace)) × (share < 2 ^ 32)
-      → SoFar which (take count spaces) i sum → SoFar which (take count spaces) (i + 1) (sum + share)
-  one-more {i} {sum} {share} h e so =
+  pub one-more : {i sum after : ℕ} → i < used count → Adds which (getD spaces i emptySpace) sum after
+      → SoFar which (take count spaces) i sum → SoFar which (take count spaces) (i + 1) after
+  one-more {i} {sum} {after} h e so =
       let st = ap (sumOf which) (standing-step spaces count full i h) in
       record { whole = omega (arith, so .whole, e .0); small = omega (arith, so .small, e .1) }
 
@@ -34,3 +40,23 @@ module _ (which : Amount) (spaces : List Space) (count : ℕ) (full : length spa
       let z = ap (sumOf which) (standing-end spaces count full i l) in
       let m = min-le-right count 200 in
       (omega (arith, so .whole), omega (arith, so .small))
+
+-- the sums of a report, and that they stay small
+pub record AllSoFar (xs : List Space) (i : ℕ) (sums : Totals) : Type 0 where
+  pub lengths : SoFar Lengths xs i (sums .lengths)
+  pub hull : SoFar Hull xs i (sums .hull)
+  pub hatchways : SoFar Hatchways xs i (sums .hatchways)
+  pub exempt : SoFar Exempt xs i (sums .exempt)
+  pub ballast : SoFar Ballast xs i (sums .ballast)
+  pub deducted : SoFar Deducted xs i (sums .deducted)
+
+pub few : {xs : List Space} {i : ℕ} {sums : Totals} → i ≤ 200 → AllSoFar xs i sums → FewSpaces sums
+few h so =
+    record {
+      lengths = omega (arith, so .lengths .small);
+      hull = omega (arith, so .hull .small);
+      hatchways = omega (arith, so .hatchways .small);
+      exempt = omega (arith, so .exempt .small);
+      ballast = omega (arith, so .ballast .small);
+      deducted = omega (arith, so .deducted .small);
+    }

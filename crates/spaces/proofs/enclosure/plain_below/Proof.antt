@@ -5,14 +5,12 @@ use mathlib.Core.Bool.{Bool, not, _&&_}
 use mathlib.Core.List.{List}
 use lib.ListN.{length, take, drop, getD}
 use Rattle.spaces.specs.Space.{emptySpace, isPlain}
-use Rattle.spaces.specs.Row.{placeOf}
 use Rattle.spaces.specs.Enclosure.{allPlain, belowOf, below}
-use Rattle.spaces.specs.Handed.{EnclosingPlaces, leadsTo, placeIn}
+use Rattle.spaces.specs.Handed.{EnclosingPlaces, leadsTo}
 use Rattle.spaces.specs.declared.space.Space.{Space}
 use Rattle.spaces.proofs.laws.Row.{take-used, standing-step, standing-end}
 use Rattle.spaces.proofs.laws.Enclosure.{below-step}
 use Rattle.spaces.proofs.laws.Places.{leads-above-standing}
-use Rattle.spaces.proofs.laws.Index.{place-first}
 use native.Mathlib.Omega.{arith}
 use borrow.Author.Needs.{needs}
 use Rattle.spaces.proofs.enclosure.plain_below.Statement.{statement}
@@ -28,40 +26,11 @@ abbrev μ-loop : tie.MeasureT-loop
 used-requires : tie.Need-used-requires Inv-loop μ-loop
 used-requires c κs = search needs
 
-ids-of-requires : tie.Need-ids-of-requires Inv-loop μ-loop
-ids-of-requires c κs = search needs
-
-cast-index : tie.Need-cast-index Inv-loop μ-loop
-cast-index c = search needs
-
-slice-aggregate-index-ids : tie.Need-slice-aggregate-index-ids Inv-loop μ-loop
-slice-aggregate-index-ids c = search needs
-
-slice-aggregate-index-ids-2 : tie.Need-slice-aggregate-index-ids-2 Inv-loop μ-loop
-slice-aggregate-index-ids-2 c = search needs
-
-index-ids-requires : tie.Need-index-ids-requires Inv-loop μ-loop
-index-ids-requires c κs = search needs
-
-slice-aggregate-enclosing-places : tie.Need-slice-aggregate-enclosing-places Inv-loop μ-loop
-slice-aggregate-enclosing-places c = search needs
-
-slice-aggregate-enclosing-places-2 : tie.Need-slice-aggregate-enclosing-places-2 Inv-loop μ-loop
-slice-aggregate-enclosing-places-2 c = search needs
-
 enclosing-places-requires : tie.Need-enclosing-places-requires Inv-loop μ-loop
-enclosing-places-requires c κs =
-    let x = c .before .before .before in
-    (omega arith, x .before .before .before .ids-of .ensures, x .index-ids .ensures)
+enclosing-places-requires c κs = search needs
 
-slice-aggregate-place-by : tie.Need-slice-aggregate-place-by Inv-loop μ-loop
-slice-aggregate-place-by c = search needs
-
-slice-aggregate-place-by-2 : tie.Need-slice-aggregate-place-by-2 Inv-loop μ-loop
-slice-aggregate-place-by-2 c = search needs
-
-place-by-requires : tie.Need-place-by-requires Inv-loop μ-loop
-place-by-requires c κs = (omega arith, c .before .before .before .before .before .before .index-ids .ensures)
+place-of-requires : tie.Need-place-of-requires Inv-loop μ-loop
+place-of-requires c κs = search needs
 
 loop-holds : tie.Need-loop-holds Inv-loop μ-loop
 loop-holds c = (omega arith, refl)
@@ -76,23 +45,20 @@ taken-under-requires : tie.Need-taken-under-requires Inv-loop μ-loop
 taken-under-requires c κs = omega arith
 
 -- the test of a space, as the definition has it
-step : (c : tie.After-taken-under Inv-loop μ-loop) → (let l = c .before .before .before .before in let s = l .before .before .before .before .before .before .before .before .before .before .before .before .before in let xs = take (s .args .count) (s .args .t1) in allPlain (below (s .args .id) xs) ≡ (not (c .taken-under .result) && allPlain (belowOf (s .args .id) xs (drop (l .loop .i + 1) xs))))
+step : (c : tie.After-taken-under Inv-loop μ-loop) → (let l = c .before .before .before .before in let s = l .before .before .before .before in let xs = take (s .args .count) (s .args .t1) in allPlain (below (s .args .id) xs) ≡ (not (c .taken-under .result) && allPlain (belowOf (s .args .id) xs (drop (l .loop .i + 1) xs))))
 step c =
     let l = c .before .before .before .before in
-    let e = l .before .before .before .before in
-    let m = e .before .before .before .before .before .before .before in
-    let u = m .before in
+    let e = l .before .before in
+    let u = e .before in
     let s = u .before in
-    let n = u .used .result in
     let xs = take (s .args .count) (s .args .t1) in
     let full : length (s .args .t1) ≡ 200 = search needs in
-    let firsts : take n (s .args .t1) ≡ xs = ap (λ (k : ℕ). take k (s .args .t1)) (u .used .ensures) ∙ take-used (s .args .t1) (s .args .count) full in
+    let firsts : take (u .used .result) (s .args .t1) ≡ xs = ap (λ (k : ℕ). take k (s .args .t1)) (u .used .ensures) ∙ take-used (s .args .t1) (s .args .count) full in
     let y = getD (s .args .t1) (l .loop .i) emptySpace in
     let rest = drop (l .loop .i + 1) xs in
     let places = e .enclosing-places .result in
     let each = subst (λ (ys : List Space). EnclosingPlaces ys places) firsts (e .enclosing-places .ensures) in
-    let to = l .before .place-by .ensures ∙ ap (λ (ids : List ℕ). placeIn (s .args .id) (take n ids)) (m .ids-of .ensures) ∙ place-first (s .args .t1) n (omega arith) (s .args .id) ∙ ap (placeOf (s .args .id)) firsts in
-    let leads = ap₂ (λ (n to : ℕ). leadsTo 8 n places (l .loop .i) to) (u .used .ensures) to ∙ leads-above-standing (s .args .t1) (s .args .count) full places each (s .args .id) (l .loop .i) (omega arith) in
+    let leads = ap₂ (λ (n to : ℕ). leadsTo 8 n places (l .loop .i) to) (u .used .ensures) (l .before .place-of .ensures) ∙ leads-above-standing (s .args .t1) (s .args .count) full places each (s .args .id) (l .loop .i) (omega arith) in
     let taken = c .taken-under .ensures ∙ ap (λ (b : Bool). not (isPlain y) && b) leads in
     sym (l .loop .inv .1)
     ∙ ap (λ (ys : List Space). allPlain (belowOf (s .args .id) xs ys)) (standing-step (s .args .t1) (s .args .count) full (l .loop .i) (omega arith))
@@ -114,7 +80,7 @@ loop-again c = (omega arith, sym (step (c .before) ∙ simp (c .if1 .left)))
 returns-2 : tie.Need-returns-2 Inv-loop μ-loop
 returns-2 c =
     let l = c .before in
-    let u = l .before .before .before .before .before .before .before .before .before .before .before .before in
+    let u = l .before .before .before in
     let s = u .before in
     let full : length (s .args .t1) ≡ 200 = search needs in
     sym (ap (λ (ys : List Space). allPlain (belowOf (s .args .id) (take (s .args .count) (s .args .t1)) ys)) (standing-end (s .args .t1) (s .args .count) full (l .loop .i) (omega (arith, u .used .ensures)))) ∙ l .loop .inv .1
@@ -126,17 +92,8 @@ plain-below-spec =
     Inv-loop
     μ-loop
     used-requires
-    ids-of-requires
-    cast-index
-    slice-aggregate-index-ids
-    slice-aggregate-index-ids-2
-    index-ids-requires
-    slice-aggregate-enclosing-places
-    slice-aggregate-enclosing-places-2
     enclosing-places-requires
-    slice-aggregate-place-by
-    slice-aggregate-place-by-2
-    place-by-requires
+    place-of-requires
     loop-holds
     mul-y
     array-copy-out-y

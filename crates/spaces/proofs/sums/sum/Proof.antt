@@ -3,7 +3,7 @@ use Prim.Native.Nat.{_≤_, _-_}
 use native.Mathlib.Nat.{min-le-right}
 use mathlib.Core.Path.{_≡_}
 use lib.ListN.{length, take}
-use Rattle.spaces.proofs.laws.Sums.{SoFar, none-yet, one-more, all-summed}
+use Rattle.spaces.proofs.laws.Sums.{SoFar, added, none-yet, one-more, all-summed}
 use borrow.Author.Needs.{needs}
 use native.Mathlib.Omega.{arith}
 use Rattle.spaces.proofs.sums.sum.Statement.{statement}
@@ -46,7 +46,7 @@ loop-again c =
     let l = c .before .before .before in
     let s = l .before .before in
     let full : length (s .args .t1) ≡ 200 = search needs in
-    (omega arith, one-more (s .args .which) (s .args .t1) (s .args .count) full (omega arith) (c .share .ensures) (l .loop .inv .1))
+    (omega arith, one-more (s .args .which) (s .args .t1) (s .args .count) full (omega arith) (added (s .args .which) _ (l .loop .total) (c .share .result) (c .share .ensures)) (l .loop .inv .1))
 
 returns : tie.Need-returns Inv-loop μ-loop
 returns c =

@@ -1,45 +1,35 @@
 -- `sums::total_up` meets its contract. The loop's invariant: each sum so far and what is left to sum are the whole.
-use Prim.Native.Nat.{ℕ, _≤_, _-_}
+use Prim.Native.Nat.{ℕ, _≤_, _<_, _-_}
 use mathlib.Core.Path.{_≡_}
-use mathlib.Core.List.{List}
 use native.Mathlib.Nat.{min-le-right}
-use lib.ListN.{length, take}
-use Rattle.spaces.specs.declared.space.Space.{Space}
-use Rattle.spaces.specs.declared.sums.Amount.the-variants.{Lengths, Hull, Hatchways, Exempt, Ballast, Deducted}
-use Rattle.spaces.proofs.laws.Sums.{SoFar, none-yet, one-more, all-summed}
-use borrow.Author.Needs.{needs}
 use native.Mathlib.Omega.{arith}
+use lib.ListN.{length, take}
+use Rattle.spaces.specs.Row.{used}
+use Rattle.spaces.specs.declared.sums.Amount.the-variants.{Lengths, Hull, Hatchways, Exempt, Ballast, Deducted}
+use Rattle.spaces.proofs.laws.Sums.{AllSoFar, none-yet, one-more, all-summed, few}
+use borrow.Author.Needs.{needs}
 use Rattle.spaces.proofs.sums.total_up.Statement.{statement}
 use Rattle.spaces.proofs.sums.total_up.Tie as tie
 
-record AllSoFar (xs : List Space) (i lengths hull hatchways exempt ballast deducted : ℕ) : Type 0 where
-  of-lengths : SoFar Lengths xs i lengths
-  of-hull : SoFar Hull xs i hull
-  of-hatchways : SoFar Hatchways xs i hatchways
-  of-exempt : SoFar Exempt xs i exempt
-  of-ballast : SoFar Ballast xs i ballast
-  of-deducted : SoFar Deducted xs i deducted
-
 abbrev Inv-loop : tie.InvT-loop
-Inv-loop count spaces n lengths₀ hull₀ hatchways₀ exempt₀ ballast₀ deducted₀ i₀ lengths hull hatchways exempt ballast deducted i =
-    (i ≤ n) × AllSoFar (take count spaces) i lengths hull hatchways exempt ballast deducted
+Inv-loop count spaces n sums₀ i₀ sums i = (i ≤ n) × AllSoFar (take count spaces) i sums
 
 abbrev μ-loop : tie.MeasureT-loop
-μ-loop count spaces n lengths₀ hull₀ hatchways₀ exempt₀ ballast₀ deducted₀ i₀ lengths hull hatchways exempt ballast deducted i = n - i
+μ-loop count spaces n sums₀ i₀ sums i = n - i
 
 used-requires : tie.Need-used-requires Inv-loop μ-loop
-used-requires c κs = search needs
+used-requires c κs = tt
 
 loop-holds : tie.Need-loop-holds Inv-loop μ-loop
 loop-holds c = (
   omega arith,
   record {
-    of-lengths = none-yet _ _;
-    of-hull = none-yet _ _;
-    of-hatchways = none-yet _ _;
-    of-exempt = none-yet _ _;
-    of-ballast = none-yet _ _;
-    of-deducted = none-yet _ _;
+    lengths = none-yet _ _;
+    hull = none-yet _ _;
+    hatchways = none-yet _ _;
+    exempt = none-yet _ _;
+    ballast = none-yet _ _;
+    deducted = none-yet _ _;
   },
 )
 
@@ -49,53 +39,11 @@ mul-x c = omega arith
 array-copy-out-x : tie.Need-array-copy-out-x Inv-loop μ-loop
 array-copy-out-x c = omega arith
 
-share-requires : tie.Need-share-requires Inv-loop μ-loop
-share-requires c κs = search needs
-
-add-lengths : tie.Need-add-lengths Inv-loop μ-loop
-add-lengths c =
-    let l = c .before .before .before in
-    omega (arith, l .loop .inv .1 .of-lengths .small, min-le-right (l .before .before .args .count) 200)
-
-share-requires-2 : tie.Need-share-requires-2 Inv-loop μ-loop
-share-requires-2 c κs = search needs
-
-add-hull : tie.Need-add-hull Inv-loop μ-loop
-add-hull c =
-    let l = c .before .before .before .before in
-    omega (arith, l .loop .inv .1 .of-hull .small, min-le-right (l .before .before .args .count) 200)
-
-share-requires-3 : tie.Need-share-requires-3 Inv-loop μ-loop
-share-requires-3 c κs = search needs
-
-add-hatchways : tie.Need-add-hatchways Inv-loop μ-loop
-add-hatchways c =
-    let l = c .before .before .before .before .before in
-    omega (arith, l .loop .inv .1 .of-hatchways .small, min-le-right (l .before .before .args .count) 200)
-
-share-requires-4 : tie.Need-share-requires-4 Inv-loop μ-loop
-share-requires-4 c κs = search needs
-
-add-exempt : tie.Need-add-exempt Inv-loop μ-loop
-add-exempt c =
-    let l = c .before .before .before .before .before .before in
-    omega (arith, l .loop .inv .1 .of-exempt .small, min-le-right (l .before .before .args .count) 200)
-
-share-requires-5 : tie.Need-share-requires-5 Inv-loop μ-loop
-share-requires-5 c κs = search needs
-
-add-ballast : tie.Need-add-ballast Inv-loop μ-loop
-add-ballast c =
-    let l = c .before .before .before .before .before .before .before in
-    omega (arith, l .loop .inv .1 .of-ballast .small, min-le-right (l .before .before .args .count) 200)
-
-share-requires-6 : tie.Need-share-requires-6 Inv-loop μ-loop
-share-requires-6 c κs = search needs
-
-add-deducted : tie.Need-add-deducted Inv-loop μ-loop
-add-deducted c =
-    let l = c .before .before .before .before .before .before .before .before in
-    omega (arith, l .loop .inv .1 .of-deducted .small, min-le-right (l .before .before .args .count) 200)
+with-space-requires : tie.Need-with-space-requires Inv-loop μ-loop
+with-space-requires c κs =
+    let l = c .before .before in
+    let low : l .loop .i ≤ 200 = omega (arith, min-le-right (l .before .before .args .count) 200) in
+    few low (l .loop .inv .1)
 
 add-i : tie.Need-add-i Inv-loop μ-loop
 add-i c = omega arith
@@ -105,34 +53,38 @@ loop-less c = omega arith
 
 loop-again : tie.Need-loop-again Inv-loop μ-loop
 loop-again c =
-    let l = c .before .before .before .before .before .before .before .before in
-    let s = l .before .before in
-    let full : length (s .args .t1) ≡ 200 = search needs in
-    let so = l .loop .inv .1 in (
+    let l = c .before .before .before in
+    let a = l .before .before .args in
+    let full : length (a .t1) ≡ 200 = search needs in
+    let stands : l .loop .i < used (a .count) = omega arith in
+    let so = l .loop .inv .1 in
+    let adds = c .with-space .ensures in (
       omega arith,
       record {
-        of-lengths = one-more Lengths (s .args .t1) (s .args .count) full (omega arith) (c .before .before .before .before .before .share .ensures) (so .of-lengths);
-        of-hull = one-more Hull (s .args .t1) (s .args .count) full (omega arith) (c .before .before .before .before .share2 .ensures) (so .of-hull);
-        of-hatchways = one-more Hatchways (s .args .t1) (s .args .count) full (omega arith) (c .before .before .before .share3 .ensures) (so .of-hatchways);
-        of-exempt = one-more Exempt (s .args .t1) (s .args .count) full (omega arith) (c .before .before .share4 .ensures) (so .of-exempt);
-        of-ballast = one-more Ballast (s .args .t1) (s .args .count) full (omega arith) (c .before .share5 .ensures) (so .of-ballast);
-        of-deducted = one-more Deducted (s .args .t1) (s .args .count) full (omega arith) (c .share6 .ensures) (so .of-deducted);
+        lengths = one-more Lengths (a .t1) (a .count) full stands (adds .lengths) (so .lengths);
+        hull = one-more Hull (a .t1) (a .count) full stands (adds .hull) (so .hull);
+        hatchways = one-more Hatchways (a .t1) (a .count) full stands (adds .hatchways) (so .hatchways);
+        exempt = one-more Exempt (a .t1) (a .count) full stands (adds .exempt) (so .exempt);
+        ballast = one-more Ballast (a .t1) (a .count) full stands (adds .ballast) (so .ballast);
+        deducted = one-more Deducted (a .t1) (a .count) full stands (adds .deducted) (so .deducted);
       },
     )
 
 returns : tie.Need-returns Inv-loop μ-loop
 returns c =
     let l = c .before in
-    let s = l .before .before in
-    let full : length (s .args .t1) ≡ 200 = search needs in
+    let a = l .before .before .args in
+    let full : length (a .t1) ≡ 200 = search needs in
+    let within : l .loop .i ≤ used (a .count) = omega arith in
+    let all : used (a .count) ≤ l .loop .i = omega arith in
     let so = l .loop .inv .1 in
     record {
-      lengths = all-summed Lengths (s .args .t1) (s .args .count) full (omega arith) (omega arith) (so .of-lengths);
-      hull = all-summed Hull (s .args .t1) (s .args .count) full (omega arith) (omega arith) (so .of-hull);
-      hatchways = all-summed Hatchways (s .args .t1) (s .args .count) full (omega arith) (omega arith) (so .of-hatchways);
-      exempt = all-summed Exempt (s .args .t1) (s .args .count) full (omega arith) (omega arith) (so .of-exempt);
-      ballast = all-summed Ballast (s .args .t1) (s .args .count) full (omega arith) (omega arith) (so .of-ballast);
-      deducted = all-summed Deducted (s .args .t1) (s .args .count) full (omega arith) (omega arith) (so .of-deducted);
+      lengths = all-summed Lengths (a .t1) (a .count) full within all (so .lengths);
+      hull = all-summed Hull (a .t1) (a .count) full within all (so .hull);
+      hatchways = all-summed Hatchways (a .t1) (a .count) full within all (so .hatchways);
+      exempt = all-summed Exempt (a .t1) (a .count) full within all (so .exempt);
+      ballast = all-summed Ballast (a .t1) (a .count) full within all (so .ballast);
+      deducted = all-summed Deducted (a .t1) (a .count) full within all (so .deducted);
     }
 
 pub total-up-spec : {M : Type 1} → statement M
@@ -145,18 +97,7 @@ total-up-spec =
     loop-holds
     mul-x
     array-copy-out-x
-    share-requires
-    add-lengths
-    share-requires-2
-    add-hull
-    share-requires-3
-    add-hatchways
-    share-requires-4
-    add-exempt
-    share-requires-5
-    add-ballast
-    share-requires-6
-    add-deducted
+    with-space-requires
     add-i
     loop-less
     loop-again
