@@ -25,7 +25,7 @@ use Rattle.measure.specs.declared.units.Hundredths.{Hundredths}
 use Rattle.measure.specs.declared.thirds.Division.{Division}
 use Rattle.measure.specs.declared.offsets.Measured.{Measured}
 use Rattle.spaces.specs.Space.{emptySpace, mayTake}
-use Rattle.spaces.specs.Row.{used as usedOf, find as findIn, foundAs, spaceWith, placeOf, stands as standsIn}
+use Rattle.spaces.specs.Row.{used as usedOf, find as findIn, foundAs, placeOf, stands as standsIn}
 use Rattle.spaces.specs.Rules.{entryNumber, withdrawNumber, markNumber}
 use Rattle.spaces.specs.Records.{firstRefused}
 use Rattle.spaces.specs.Gross.{reckoned}
@@ -89,7 +89,6 @@ pub data Public : Type 0 → Type 0 → Type 1 where
   find : Public (List Space × ℕ × ℕ) Found
   place-of : Public (List Space × ℕ × ℕ) ℕ
   stands : Public (List Space × ℕ × ℕ) Bool
-  space-with : Public (List Space × ℕ × ℕ) Space
   entry-number : Public (List Space × ℕ × ℕ × Space) ℕ
   withdraw-number : Public (List Space × ℕ × ℕ) ℕ
   mark-number : Public (List Space × ℕ × ℕ × ℕ) ℕ
@@ -155,7 +154,6 @@ promised used count = usedOf count
 promised find (spaces, count, id) = foundAs (findIn id (take count spaces))
 promised place-of (spaces, count, id) = placeOf id (take count spaces)
 promised stands (spaces, count, id) = standsIn id (take count spaces)
-promised space-with (spaces, count, id) = spaceWith (findIn id (take count spaces))
 promised entry-number (spaces, count, L, x) = entryNumber L (take count spaces) x
 promised withdraw-number (spaces, count, id) = withdrawNumber (take count spaces) id
 promised mark-number (spaces, count, id, standing) = markNumber (take count spaces) id standing

@@ -75,9 +75,16 @@ pastOf standing w = record { levels = w .levels + 1; plain = eqb standing 0 && w
 abbrev pub enclosingPlace : List Space → Space → ℕ
 enclosingPlace xs x = cond (isRoom x) (placeOf (x .within) xs) (length xs)
 
+-- the place asked of a space: that at which its own id stands first, or that of its enclosing space
+abbrev pub asked : Bool → List Space → Space → ℕ
+asked own xs x = cond own (placeOf (x .id) xs) (enclosingPlace xs x)
+
 -- a row of numbers that has it for each space, at the space's own place
+abbrev pub Places : Bool → List Space → List ℕ → Type 0
+Places own xs places = (i : ℕ) → i < length xs → getD places i 0 ≡ asked own xs (getD xs i emptySpace)
+
 abbrev pub EnclosingPlaces : List Space → List ℕ → Type 0
-EnclosingPlaces xs places = (i : ℕ) → i < length xs → getD places i 0 ≡ enclosingPlace xs (getD xs i emptySpace)
+EnclosingPlaces xs places = Places false xs places
 
 -- the chain upward from the place `from`, followed in such a row, leads to the place `to`, with `left` levels left and n spaces standing
 unfoldable pub leadsTo : (left n : ℕ) (places : List ℕ) (from to : ℕ) → Bool
@@ -109,9 +116,9 @@ abbrev pub placeIn : ℕ → List ℕ → ℕ
 placeIn id [] = 0
 placeIn id (x ∷ xs) = cond (eqb x id) 0 (suc (placeIn id xs))
 
--- a row of numbers that has, at each space's own place, the first place of its id
-abbrev pub OwnPlaces : List Space → List ℕ → Type 0
-OwnPlaces xs places = (i : ℕ) → i < length xs → getD places i 0 ≡ placeOf (getD xs i emptySpace .id) xs
+-- the place asked, among n ids
+abbrev pub askedIn : Bool → Space → List ℕ → ℕ → ℕ
+askedIn own x ids n = cond own (placeIn (x .id) ids) (cond (isRoom x) (placeIn (x .within) ids) n)
 
 -- an index of ids: at each id that it reaches the place of that id
 abbrev pub Indexed : List ℕ → List ℕ → Type 0

@@ -1,8 +1,6 @@
 // The chain upward ("Enclosure"): walked one enclosing space at a time, for levels and for the standings above; and
 // followed by places, for the standings below.
-use crate::index::ids_of;
-use crate::index::index_ids;
-use crate::index::place_by;
+use crate::index::places;
 use crate::row::Found;
 use crate::row::find;
 use crate::row::place_of;
@@ -10,14 +8,14 @@ use crate::row::used;
 use crate::space::ROOM;
 use crate::space::Space;
 ghost use mathlib.Core.Path.{_≡_};
-ghost use mathlib.Core.Bool.{cond, not, _&&_};
+ghost use mathlib.Core.Bool.{not, _&&_};
 ghost use mathlib.Core.List.{_∷_};
 ghost use Prim.Native.Nat.{_≤_, _<_};
-ghost use lib.ListN.{length, take};
-ghost use Rattle.spaces.specs.Space.{isRoom, isPlain};
+ghost use lib.ListN.{take};
+ghost use Rattle.spaces.specs.Space.{isPlain};
 ghost use Rattle.spaces.specs.Row.{foundAs};
 ghost use Rattle.spaces.specs.Enclosure.{enclosing as enclosingIn, onward, upward, allPlain, below};
-ghost use Rattle.spaces.specs.Handed.{searched, walked, pastOf, climbed, EnclosingPlaces, leadsTo, placeIn, Indexed};
+ghost use Rattle.spaces.specs.Handed.{searched, walked, pastOf, climbed, leadsTo};
 
 // What a walk upward met: how many spaces, and whether all are plain.
 pub struct Above {
@@ -133,46 +131,17 @@ pub(crate) fn plain_below(spaces: [Space; 200], count: usize, id: u16) -> bool
     ensures { λ r. ⌜ r ≡ allPlain (below id (take count spaces)) ⌝ }
 {
     let n = used(count);
-    let places = enclosing_places(spaces, n);
+    let homes = places(spaces, n, false);
     let to = place_of(spaces, count, id);
     let mut i = 0;
     while i < n {
         let y = spaces[i];
-        if taken_under(y, &places, n, i, to) {
+        if taken_under(y, &homes, n, i, to) {
             return false;
         }
         i += 1;
     }
     true
-}
-
-// The place of the enclosing space of each of the first n.
-pub(crate) fn enclosing_places(spaces: [Space; 200], n: usize) -> [usize; 200]
-    requires { ⌜ n ≤ 200 ⌝ }
-    ensures { λ r. ⌜ EnclosingPlaces (take n spaces) r ⌝ }
-{
-    let ids = ids_of(spaces);
-    let mut index = [n as u8; 10000];
-    index_ids(&ids, n, &mut index);
-    let mut places = [0usize; 200];
-    let mut i = 0;
-    while i < n {
-        let x = spaces[i];
-        places[i] = enclosing_place(x, &index, &ids, n);
-        i += 1;
-    }
-    places
-}
-
-// The place of the enclosing space, from 0; n, as many as stand, where there is none.
-fn enclosing_place(x: Space, index: &[u8], ids: &[u16], n: usize) -> usize
-    requires { ⌜ (n ≤ length (now ids)) × Indexed (take n (now ids)) (now index) ⌝ }
-    ensures { λ r. ⌜ r ≡ cond (isRoom x) (placeIn (x .within) (take n (now (ids .entry)))) n ⌝ }
-{
-    if x.kind == ROOM {
-        return place_by(index, ids, n, x.within);
-    }
-    n
 }
 
 // Whether a space isn't plain and the one at the place `to` is above it, which stands at `from`.

@@ -1,11 +1,12 @@
 // The places of ids, found by an index instead of a search: for each id the place at which it stands. Numbers may be lent, so
 // nothing is copied; the ids stand in a row of their own.
+use crate::space::ROOM;
 use crate::space::Space;
 ghost use mathlib.Core.Path.{_≡_};
 ghost use mathlib.Core.List.{List};
 ghost use Prim.Native.Nat.{_≤_};
 ghost use lib.ListN.{length, take, replicate};
-ghost use Rattle.spaces.specs.Handed.{idsOf, standingsOf, placeIn, Indexed, OwnPlaces};
+ghost use Rattle.spaces.specs.Handed.{idsOf, standingsOf, placeIn, Indexed, Places, askedIn};
 
 // The ids of the spaces, in their order.
 pub(crate) fn ids_of(spaces: [Space; 200]) -> [u16; 200]
@@ -78,20 +79,34 @@ fn place_in(ids: &[u16], n: usize, id: u16) -> usize
     n
 }
 
-// The place at which the id of each of the first n spaces stands first.
-pub(crate) fn own_places(spaces: [Space; 200], n: usize) -> [usize; 200]
+// For each of the first n spaces a place: that at which its own id stands first, or that of its enclosing space.
+pub(crate) fn places(spaces: [Space; 200], n: usize, own: bool) -> [usize; 200]
     requires { ⌜ n ≤ 200 ⌝ }
-    ensures { λ r. ⌜ OwnPlaces (take n spaces) r ⌝ }
+    ensures { λ r. ⌜ Places own (take n spaces) r ⌝ }
 {
     let ids = ids_of(spaces);
     let mut index = [n as u8; 10000];
     index_ids(&ids, n, &mut index);
-    let mut places = [0usize; 200];
+    let mut found = [0usize; 200];
     let mut i = 0;
     while i < n {
-        let id = ids[i];
-        places[i] = place_by(&index, &ids, n, id);
+        let x = spaces[i];
+        found[i] = place_asked(x, own, &index, &ids, n);
         i += 1;
     }
-    places
+    found
+}
+
+// The place asked of a space, from 0; n where there is none.
+fn place_asked(x: Space, own: bool, index: &[u8], ids: &[u16], n: usize) -> usize
+    requires { ⌜ (n ≤ length (now ids)) × Indexed (take n (now ids)) (now index) ⌝ }
+    ensures { λ r. ⌜ r ≡ askedIn own x (take n (now (ids .entry))) n ⌝ }
+{
+    if own {
+        return place_by(index, ids, n, x.id);
+    }
+    if x.kind == ROOM {
+        return place_by(index, ids, n, x.within);
+    }
+    n
 }

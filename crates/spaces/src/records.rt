@@ -2,8 +2,7 @@
 // around each is known by places and running sums, so that no search and no sum is made twice.
 use crate::enclosure::LEVELS;
 use crate::enclosure::climb;
-use crate::enclosure::enclosing_places;
-use crate::index::own_places;
+use crate::index::places;
 use crate::index::standings_of;
 use crate::row::Found;
 use crate::row::least;
@@ -90,17 +89,17 @@ pub fn first_refused(records: [Space; 200], count: usize, tonnage_length: u32) -
     ensures { λ r. ⌜ r ≡ firstRefused «tonnage_length» [] (take count records) ⌝ }
 {
     let n = used(count);
-    let places = enclosing_places(records, n);
-    let owns = own_places(records, n);
+    let homes = places(records, n, false);
+    let owns = places(records, n, true);
     let standings = standings_of(records);
     let mut inside = [0u64; 201];
     let mut lengths: u64 = 0;
     let mut i = 0;
     while i < n {
         let x = records[i];
-        let home = places[i];
+        let home = homes[i];
         let z = records[least(home, i)];
-        let up = climb(&places, &standings, i, i, LEVELS);
+        let up = climb(&homes, &standings, i, i, LEVELS);
         let around = Around {
             taken: owns[i] < i,
             levels: up.levels,

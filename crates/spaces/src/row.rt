@@ -1,10 +1,9 @@
 // The standing spaces: how many there are, and finding one by its id.
 use crate::space::Space;
-use crate::space::empty;
 ghost use mathlib.Core.Path.{_≡_};
 ghost use Prim.Native.Nat.{min};
 ghost use lib.ListN.{take};
-ghost use Rattle.spaces.specs.Row.{find as findIn, placeOf, stands as standsIn, spaceWith, foundAs, used as usedOf};
+ghost use Rattle.spaces.specs.Row.{find as findIn, placeOf, stands as standsIn, foundAs, used as usedOf};
 
 // The space with an id, if it stands.
 pub enum Found {
@@ -67,16 +66,5 @@ pub fn stands(spaces: [Space; 200], count: usize, id: u16) -> bool
     match found {
         Found::At(_) => true,
         Found::Nothing => false,
-    }
-}
-
-// The space with an id; an empty record where none stands.
-pub fn space_with(spaces: [Space; 200], count: usize, id: u16) -> Space
-    ensures { λ r. ⌜ r ≡ spaceWith (findIn id (take count spaces)) ⌝ }
-{
-    let found = find(spaces, count, id);
-    match found {
-        Found::At(x) => x,
-        Found::Nothing => empty(),
     }
 }

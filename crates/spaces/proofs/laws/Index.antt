@@ -1,7 +1,7 @@
 -- Rows of one number of each space; and an index of ids: one id more at the front, and what an index says once all are laid.
 use Prim.Native.Nat.{ℕ, zero, suc, _+_, _-_, _≤_, _<_}
 use mathlib.Core.Path.{_≡_, refl, sym, ap, _∙_}
-use mathlib.Core.Bool.{cond}
+use mathlib.Core.Bool.{Bool, true, false}
 use mathlib.Core.List.{List, [], _∷_, _++_}
 use native.Mathlib.Nat.{zero-add}
 use native.Mathlib.Numerals.{add-one}
@@ -12,7 +12,7 @@ use lib.ListN.{length, take, drop, getD, set, replicate, length-take, length-set
 use lib.Seq.{drop-cons, getD-take, getD-set-same, getD-set-other, take-suc, take-suc-set, take-all, length-take-le}
 use Rattle.spaces.specs.Space.{emptySpace, isRoom}
 use Rattle.spaces.specs.Row.{placeOf}
-use Rattle.spaces.specs.Handed.{enclosingPlace, column, idsOf, placeIn, Indexed}
+use Rattle.spaces.specs.Handed.{asked, column, idsOf, placeIn, askedIn, Indexed}
 use Rattle.spaces.specs.declared.space.Space.{Space}
 use Rattle.spaces.proofs.laws.Cases.{by-test}
 
@@ -119,5 +119,6 @@ module _ (spaces : List Space) (n : ℕ) (fits : n ≤ length spaces) where
   pub place-first : (id : ℕ) → placeIn id (take n (idsOf spaces)) ≡ placeOf id (take n spaces)
   place-first id = ap (placeIn id) (column-take (λ (x : Space). x .id) n spaces) ∙ place-of-ids id (take n spaces)
 
-  pub enclosing-place-first : (x : Space) → cond (isRoom x) (placeIn (x .within) (take n (idsOf spaces))) n ≡ enclosingPlace (take n spaces) x
-  enclosing-place-first x = by-test (isRoom x) (λ r. rw r (place-first (x .within))) (λ r. rw r (sym (length-take-le n spaces fits)))
+  pub asked-first : (own : Bool) (x : Space) → askedIn own x (take n (idsOf spaces)) n ≡ asked own (take n spaces) x
+  asked-first true x = place-first (x .id)
+  asked-first false x = by-test (isRoom x) (λ r. rw r (place-first (x .within))) (λ r. rw r (sym (length-take-le n spaces fits)))

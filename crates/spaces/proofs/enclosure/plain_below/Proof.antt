@@ -17,17 +17,17 @@ use Rattle.spaces.proofs.enclosure.plain_below.Statement.{statement}
 use Rattle.spaces.proofs.enclosure.plain_below.Tie as tie
 
 abbrev Inv-loop : tie.InvT-loop
-Inv-loop count id spaces n places to i₀ i =
+Inv-loop count id spaces n homes to i₀ i =
     (i ≤ n) × (allPlain (belowOf id (take count spaces) (drop i (take count spaces))) ≡ allPlain (below id (take count spaces)))
 
 abbrev μ-loop : tie.MeasureT-loop
-μ-loop count id spaces n places to i₀ i = n - i
+μ-loop count id spaces n homes to i₀ i = n - i
 
 used-requires : tie.Need-used-requires Inv-loop μ-loop
 used-requires c κs = search needs
 
-enclosing-places-requires : tie.Need-enclosing-places-requires Inv-loop μ-loop
-enclosing-places-requires c κs = search needs
+places-requires : tie.Need-places-requires Inv-loop μ-loop
+places-requires c κs = search needs
 
 place-of-requires : tie.Need-place-of-requires Inv-loop μ-loop
 place-of-requires c κs = search needs
@@ -56,8 +56,8 @@ step c =
     let firsts : take (u .used .result) (s .args .t1) ≡ xs = ap (λ (k : ℕ). take k (s .args .t1)) (u .used .ensures) ∙ take-used (s .args .t1) (s .args .count) full in
     let y = getD (s .args .t1) (l .loop .i) emptySpace in
     let rest = drop (l .loop .i + 1) xs in
-    let places = e .enclosing-places .result in
-    let each = subst (λ (ys : List Space). EnclosingPlaces ys places) firsts (e .enclosing-places .ensures) in
+    let places = e .places .result in
+    let each = subst (λ (ys : List Space). EnclosingPlaces ys places) firsts (e .places .ensures) in
     let leads = ap₂ (λ (n to : ℕ). leadsTo 8 n places (l .loop .i) to) (u .used .ensures) (l .before .place-of .ensures) ∙ leads-above-standing (s .args .t1) (s .args .count) full places each (s .args .id) (l .loop .i) (omega arith) in
     let taken = c .taken-under .ensures ∙ ap (λ (b : Bool). not (isPlain y) && b) leads in
     sym (l .loop .inv .1)
@@ -92,7 +92,7 @@ plain-below-spec =
     Inv-loop
     μ-loop
     used-requires
-    enclosing-places-requires
+    places-requires
     place-of-requires
     loop-holds
     mul-y

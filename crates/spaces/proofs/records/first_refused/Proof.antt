@@ -26,31 +26,42 @@ use Rattle.spaces.proofs.records.first_refused.Statement.{statement}
 use Rattle.spaces.proofs.records.first_refused.Tie as tie
 
 abbrev Inv-loop : tie.InvT-loop
-Inv-loop count tonnage-length records n places owns standings inside₀ lengths₀ i₀ inside lengths i =
+Inv-loop count tonnage-length records n homes owns standings inside₀ lengths₀ i₀ inside lengths i =
     (i ≤ n)
     × (firstRefused tonnage-length (take i (take n records)) (drop i (take n records)) ≡ firstRefused tonnage-length [] (take n records))
     × Summed (take n records) i inside lengths
 
 abbrev μ-loop : tie.MeasureT-loop
-μ-loop count tonnage-length records n places owns standings inside₀ lengths₀ i₀ inside lengths i = n - i
+μ-loop count tonnage-length records n homes owns standings inside₀ lengths₀ i₀ inside lengths i = n - i
 
 used-requires : tie.Need-used-requires Inv-loop μ-loop
 used-requires c κs = tt
 
-enclosing-places-requires : tie.Need-enclosing-places-requires Inv-loop μ-loop
-enclosing-places-requires c κs = omega arith
+places-requires : tie.Need-places-requires Inv-loop μ-loop
+places-requires c κs = omega arith
 
-own-places-requires : tie.Need-own-places-requires Inv-loop μ-loop
-own-places-requires c κs = omega arith
+places-requires-2 : tie.Need-places-requires-2 Inv-loop μ-loop
+places-requires-2 c κs = omega arith
 
 standings-of-requires : tie.Need-standings-of-requires Inv-loop μ-loop
 standings-of-requires c κs = tt
+
+-- there are 200 places
+filled : (u : tie.After-used Inv-loop μ-loop) → length (u .before .args .t1) ≡ 200
+filled u = search needs
+
+-- all that are used stand
+all-used : (u : tie.After-used Inv-loop μ-loop) → (let a = u .before .args in take (u .used .result) (a .t1) ≡ take (a .count) (a .t1))
+all-used u =
+    let a = u .before .args in
+    let full = filled u in
+    ap (λ (k : ℕ). take k (a .t1)) (u .used .ensures) ∙ take-used (a .t1) (a .count) full
 
 loop-holds : tie.Need-loop-holds Inv-loop μ-loop
 loop-holds c =
     let u = c .before .before .before in
     let s = u .before in
-    let full : length (s .args .t1) ≡ 200 = search needs in
+    let full = filled u in
     let n = u .used .result in
     (omega arith, refl, nothing-summed (take n (s .args .t1)) (omega (arith, length-take-le n (s .args .t1) (omega arith))))
 
@@ -84,28 +95,21 @@ mul-found-if c = omega arith
 array-read-found-if : tie.Need-array-read-found-if Inv-loop μ-loop
 array-read-found-if c = omega arith
 
--- all that are used stand
-all-used : (u : tie.After-used Inv-loop μ-loop) → (let a = u .before .args in take (u .used .result) (a .t1) ≡ take (a .count) (a .t1))
-all-used u =
-    let a = u .before .args in
-    let full : length (a .t1) ≡ 200 = search needs in
-    ap (λ (k : ℕ). take k (a .t1)) (u .used .ensures) ∙ take-used (a .t1) (a .count) full
-
 -- the record's place, and its home
 low-place : (c : tie.After-x Inv-loop μ-loop) → c .before .before .loop .i < 200
 low-place c =
     let u = c .before .before .before .before .before .before in
     omega (arith, min-le-right (u .before .args .count) 200, u .used .ensures)
 
-home-low : (c : tie.After-x Inv-loop μ-loop) → (let l = c .before .before in getD (l .before .before .before .enclosing-places .result) (l .loop .i) 0 < 201)
+home-low : (c : tie.After-x Inv-loop μ-loop) → (let l = c .before .before in getD (l .before .before .before .places .result) (l .loop .i) 0 < 201)
 home-low c =
     let l = c .before .before in
     let e = l .before .before .before in
     let u = e .before in
     let a = u .before .args in
-    let full : length (a .t1) ≡ 200 = search needs in
+    let full = filled u in
     let size = length-take-le (u .used .result) (a .t1) (omega arith) in
-    omega (arith, size, home-within (take (u .used .result) (a .t1)) (e .enclosing-places .result) (e .enclosing-places .ensures) (l .loop .i) (omega (arith, size)))
+    omega (arith, size, home-within (take (u .used .result) (a .t1)) (e .places .result) (e .places .ensures) (l .loop .i) (omega (arith, size)))
 
 beside-bounded : (c : tie.After-beside Inv-loop μ-loop) → c .beside .result ≤ 200 * 2 ^ 32
 beside-bounded c =
@@ -131,7 +135,7 @@ found-if-requires c κs = tt
 record-number-requires : tie.Need-record-number-requires Inv-loop μ-loop
 record-number-requires c κs =
     let l = c .before .before .before .before .before .before .before .before .before in
-    let places = l .before .before .before .enclosing-places .result in
+    let places = l .before .before .before .places .result in
     (beside-bounded (c .before), omega (arith, ap (λ (w : Above). w .levels) (c .before .before .climb .ensures), climbed-short 8 (l .loop .i) places (l .before .standings-of .result) (l .loop .i)))
 
 -- the number is the definition's
@@ -147,26 +151,26 @@ number-is c =
     let a = u .before .args in
     let n = u .used .result in
     let xs = take n (a .t1) in
-    let full : length (a .t1) ≡ 200 = search needs in
+    let full = filled u in
     let size = length-take-le n (a .t1) (omega arith) in
     let at : i < length xs = omega (arith, size, before-last) in
-    let places = ep .enclosing-places .result in
+    let places = ep .places .result in
     let home = getD places i 0 in
     let same : getD (a .t1) i emptySpace ≡ getD xs i emptySpace = sym (getD-take n (a .t1) i emptySpace before-last) in
     let low : min home i < n = omega (arith, before-last, min-le-right home i) in
     let z = ap (λ (p : ℕ). getD (a .t1) p emptySpace) (c .before .before .before .before .before .before .before .least .ensures) ∙ sym (getD-take n (a .t1) (min home i) emptySpace low) in
     let up = c .before .before .before .climb in
     let around : Around =
-    record { taken = ltb (getD (own .own-places .result) i 0) i; levels = up .result .levels; plain = up .result .plain; beside = c .before .before .beside .result; full = false } in
+    record { taken = ltb (getD (own .places2 .result) i 0) i; levels = up .result .levels; plain = up .result .plain; beside = c .before .before .beside .result; full = false } in
     c .record-number .ensures
     ∙ ap (λ (y : Space). cond (misrecorded y) 2 (judgedNumber (a .tonnage-length) y (searched (c .before .found-if .result)) around)) same
     ∙ record-number-is xs i at (omega (arith, size)) places (st .standings-of .result) (l .loop .inside) (l .loop .lengths)
-    (ep .enclosing-places .ensures)
+    (ep .places .ensures)
     (λ p h. ap (λ (row : List ℕ). getD row p 0) (st .standings-of .ensures) ∙ standing-there (a .t1) n p h)
     (l .loop .inv .2) (searched (c .before .found-if .result)) around
     record {
       enclosed = c .before .found-if .ensures ∙ ap (λ (y : Space). cond (ltb home i) (some y) none) z;
-      taken = ap (λ (p : ℕ). ltb p i) (own .own-places .ensures i at);
+      taken = ap (λ (p : ℕ). ltb p i) (own .places2 .ensures i at);
       levels = ap (λ (w : Above). w .levels) (up .ensures);
       plain = ap (λ (w : Above). w .plain) (up .ensures);
       beside = c .before .before .beside .ensures ∙ ap (λ (y : Space). cond (isRoom y) (getD (l .loop .inside) home 0) (l .loop .lengths)) same;
@@ -183,7 +187,7 @@ returns c =
     let l = r .before .before .before .before .before .before .before .before .before .before in
     let u = l .before .before .before .before in
     let s = u .before in
-    let full : length (s .args .t1) ≡ 200 = search needs in
+    let full = filled u in
     let xs = take (u .used .result) (s .args .t1) in
     let size = length-take-le (u .used .result) (s .args .t1) (omega arith) in
     let here = number-is r in
@@ -227,12 +231,12 @@ loop-again c =
     let l = r .before .before .before .before .before .before .before .before .before .before in
     let u = l .before .before .before .before in
     let s = u .before in
-    let full : length (s .args .t1) ≡ 200 = search needs in
+    let full = filled u in
     let xs = take (u .used .result) (s .args .t1) in
     let size = length-take-le (u .used .result) (s .args .t1) (omega arith) in
     let at : l .loop .i < length xs = omega (arith, size, c .before .before .before .before .before .before .before .before .before .before .before .before .loop-test .taken) in
     let passed = record-passed (s .args .tonnage-length) xs (l .loop .i) at (sym (number-is r) ∙ c .before .before .if1 .left) in
-    let ep = l .before .before .before .enclosing-places in
+    let ep = l .before .before .before .places in
     let same = sym (getD-take (u .used .result) (s .args .t1) (l .loop .i) emptySpace (c .before .before .before .before .before .before .before .before .before .before .before .before .loop-test .taken)) in (
       omega arith,
       sym passed ∙ l .loop .inv .1,
@@ -244,7 +248,7 @@ returns-2 c =
     let l = c .before in
     let u = l .before .before .before .before in
     let s = u .before in
-    let full : length (s .args .t1) ≡ 200 = search needs in
+    let full = filled u in
     let xs = take (u .used .result) (s .args .t1) in
     let size = length-take-le (u .used .result) (s .args .t1) (omega arith) in
     sym (none-refused (s .args .tonnage-length) xs (l .loop .i) (omega (arith, size))) ∙ l .loop .inv .1 ∙ ap (firstRefused (s .args .tonnage-length) []) (all-used u)
@@ -256,8 +260,8 @@ first-refused-spec =
     Inv-loop
     μ-loop
     used-requires
-    enclosing-places-requires
-    own-places-requires
+    places-requires
+    places-requires-2
     standings-of-requires
     loop-holds
     mul-x

@@ -1,7 +1,7 @@
 -- `rules::judged` meets its contract: the tests of 4 to 10, in the table's order.
 use Prim.Native.Nat.{_+_}
 use mathlib.Core.Path.{_≡_, sym, _∙_}
-use mathlib.Core.Bool.{false, not, _&&_, _||_}
+use mathlib.Core.Bool.{false, cond, not, _&&_, _||_}
 use borrow.Author.Tests.{lt-ltb, le-ltb}
 use lib.Dec.{ltb}
 use Rattle.spaces.specs.Space.{isRoom, isPlain, mayTake}
@@ -88,25 +88,21 @@ returns-6 c =
 fits : (c : tie.Else6) → (let s = c .before .before .before .before .before .before .before .before .before .before .before .before .args in overfullBy (s .tonnage-length) (s .x) (searched (s .found)) (s .around .beside) ≡ false)
 fits c = sym (c .before .overfull .ensures) ∙ c .if6 .left
 
-returns-7 : tie.Need-returns-7
+-- with all the others passed, 10 decides
+last-test : (c : tie.Else6) → (let s = c .before .before .before .before .before .before .before .before .before .before .before .before .args in judgedNumber (s .tonnage-length) (s .x) (searched (s .found)) (s .around) ≡ cond (s .around .full) 10 0)
 unfolding judgedNumber
-returns-7 c =
-    let f = c .before in
-    let o = f .before .before in
+last-test c =
+    let o = c .before .before in
     let d = o .before .before in
     let p = d .before .before in
     let h = p .before .before in
-    simp (free (h .before .before), housed h, placed p, shallow d, once o, fits f, c .if7 .taken)
+    simp (free (h .before .before), housed h, placed p, shallow d, once o, fits c)
+
+returns-7 : tie.Need-returns-7
+returns-7 c = sym (last-test (c .before) ∙ simp (c .if7 .taken))
 
 returns-8 : tie.Need-returns-8
-unfolding judgedNumber
-returns-8 c =
-    let f = c .before in
-    let o = f .before .before in
-    let d = o .before .before in
-    let p = d .before .before in
-    let h = p .before .before in
-    simp (free (h .before .before), housed h, placed p, shallow d, once o, fits f, c .if7 .left)
+returns-8 c = sym (last-test (c .before) ∙ simp (c .if7 .left))
 
 pub judged-spec : {M : Type 1} → statement M
 judged-spec =
