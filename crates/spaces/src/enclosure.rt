@@ -97,7 +97,7 @@ fn both(a: bool, b: bool) -> bool
     if a { b } else { false }
 }
 
-// The same by places: from the place `at` upward, over the first `most` spaces, with `left` levels left.
+// The walk by places: from the place `at` upward, over the first `most` spaces, with `left` levels left.
 pub(crate) fn climb(
     places: &[usize; 200],
     standings: &[u8; 200],

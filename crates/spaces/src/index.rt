@@ -3,7 +3,6 @@
 use crate::space::ROOM;
 use crate::space::Space;
 ghost use mathlib.Core.Path.{_≡_};
-ghost use mathlib.Core.List.{List};
 ghost use Prim.Native.Nat.{_≤_};
 ghost use lib.ListN.{length, take, replicate};
 ghost use Rattle.spaces.specs.Handed.{idsOf, standingsOf, placeIn, Indexed, Places, askedIn};
@@ -79,7 +78,8 @@ fn place_in(ids: &[u16], n: usize, id: u16) -> usize
     n
 }
 
-// For each of the first n spaces a place: that at which its own id stands first, or that of its enclosing space.
+// For each of the first n spaces a place: that at which its own id stands first, or that of its enclosing space. The index has a byte
+// for each id that may stand, up to 9,999.
 pub(crate) fn places(spaces: [Space; 200], n: usize, own: bool) -> [usize; 200]
     requires { ⌜ n ≤ 200 ⌝ }
     ensures { λ r. ⌜ Places own (take n spaces) r ⌝ }
