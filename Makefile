@@ -2,7 +2,7 @@
 # `make fuzz N=100` compares fresh scripts; `make bench` times the calls beside the same calls in plain Rust.
 KIT := rattle-kit-5b logic 064da1ca440f63e7
 
-.PHONY: test proofs reference-tests listings linked run examples fuzz bench stored kit
+.PHONY: test proofs reference-tests run examples fuzz bench stored kit
 
 test: kit
 	@rt fmt --check
@@ -11,26 +11,20 @@ test: kit
 	@python3 tools/header.py
 	@$(MAKE) --no-print-directory -j2 proofs reference-tests
 	@python3 tools/edits.py
-	@$(MAKE) --no-print-directory -j2 listings linked
+	@python3 tools/lists.py > target/lists.log || { cat target/lists.log; exit 1; }
+	@python3 tools/examples.py
+	@gcc -std=c11 -Wall -Wextra -Wpedantic -Werror -O1 -Iinclude tools/boundary.c target/staticlib/libfummidrake.a -o target/boundary
+	@target/boundary
+	@$(MAKE) --no-print-directory target/bench
+	@target/bench --check
 
-# The parts of the test: every proof and edit from nothing, beside the second program's own tests; then the listings, beside what
-# links the archive.
+# Every proof and edit from nothing, and beside it the second program's own tests.
 proofs:
 	@rt ci
 
 reference-tests:
 	@python3 -m unittest discover -q -s reference -t .
 	@python3 tools/stored.py --check
-
-listings:
-	@python3 tools/lists.py > target/lists.log || { cat target/lists.log; exit 1; }
-
-linked:
-	@python3 tools/examples.py
-	@gcc -std=c11 -Wall -Wextra -Wpedantic -Werror -O1 -Iinclude tools/boundary.c target/staticlib/libfummidrake.a -o target/boundary
-	@target/boundary
-	@$(MAKE) --no-print-directory target/bench
-	@target/bench --check
 
 # Proves the library and the programs over it, then plays the example barge's morning and lists the sheet that it wrote.
 run: kit
