@@ -130,6 +130,7 @@ Indexed ids index = (id : ℕ) → id < length index → getD index id 0 ≡ pla
 abbrev pub besideOf : List Space → Space → ℕ
 besideOf xs x = cond (isRoom x) (sumOf (Inside (x .within)) xs) (cond (isUnderDeck x) (sumOf Lengths xs) 0)
 
+-- 9, by the enclosing space and what the entry is added to
 abbrev pub overfullBy : ℕ → Space → Option Space → ℕ → Bool
 overfullBy L x none beside = isUnderDeck x && ltb L (beside + x .length)
 overfullBy L x (some z) beside = ltb (z .tonnage) (beside + x .tonnage)
