@@ -5,6 +5,7 @@ KIT := rattle-kit-5b logic 064da1ca440f63e7
 .PHONY: test proofs reference-tests run examples fuzz bench stored kit
 
 test: kit
+	@tools/x86 ready
 	@rt fmt --check
 	@python3 tools/promises.py
 	@python3 tools/mapped.py
@@ -13,10 +14,9 @@ test: kit
 	@python3 tools/edits.py
 	@python3 tools/lists.py > target/lists.log || { cat target/lists.log; exit 1; }
 	@python3 tools/examples.py
-	@gcc -std=c11 -Wall -Wextra -Wpedantic -Werror -O1 -Iinclude tools/boundary.c target/staticlib/libfummidrake.a -o target/boundary
-	@target/boundary
-	@$(MAKE) --no-print-directory target/bench
-	@target/bench --check
+	@tools/x86 cc -std=c11 -Wall -Wextra -Wpedantic -Werror -O1 -Iinclude tools/boundary.c target/staticlib/libfummidrake.a -o target/boundary
+	@tools/x86 run target/boundary
+	@! tools/x86 rust || { $(MAKE) --no-print-directory target/bench && target/bench --check; }
 
 # Every proof and edit from nothing, and beside it the second program's own tests.
 proofs:
@@ -29,11 +29,12 @@ reference-tests:
 # Proves the library and the programs over it, then plays the example barge's morning and lists the sheet that it wrote.
 run: kit
 	@rt check survey sheetlist > target/run.log 2>&1 || { cat target/run.log; exit 1; }
-	@target/bin/survey < examples/barge.txt
-	@target/bin/sheetlist < examples/barge.day
+	@tools/x86 run target/bin/survey < examples/barge.txt
+	@tools/x86 run target/bin/sheetlist < examples/barge.day
 
 # Builds and runs the programs in C and Rust by the README's lines, and compares what they print with the second program's answers.
 examples: kit
+	@tools/x86 ready
 	@python3 tools/examples.py -v
 
 # Plays N fresh scripts at random on the proved program and on the second one, and stops at the first difference.
@@ -43,7 +44,9 @@ fuzz: kit
 	@python3 tools/fuzz.py $(N)
 
 # Times each call beside the same call in plain Rust, and how both grow with the spaces that stand (docs/PERFORMANCE.md).
-bench: target/bench
+bench: kit
+	@tools/x86 rust || { echo "make bench needs x86-64: times under an emulator say nothing"; exit 1; }
+	@$(MAKE) --no-print-directory target/bench
 	@target/bench
 
 # Both sides as a release has them: the kit compiles the archive at -O3 for any x86-64, and so is the plain side here.

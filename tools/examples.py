@@ -3,6 +3,9 @@
 program's answers and listing, examples/answers.txt; and fails where the README's few lines of C or Rust answer another number than
 it says of them.
 
+A line that compiles C or runs a program goes by tools/x86, which does the same on a machine of another kind; where no Rust is compiled
+for x86-64, the example in Rust is left out.
+
 Run at the root of the project: python3 tools/examples.py [-v]   (-v prints what each line prints)
 """
 import re
@@ -49,15 +52,24 @@ def try_code(section: str) -> None:
     printed(build)
 
 
+def on_this_machine(line: str) -> str:
+    """A line of the README as any machine has it: gcc compiles for x86-64, and a program under target/ is one for x86-64."""
+    by_compiler = re.sub(r'(^|&& )gcc ', r'\1tools/x86 cc ', line)
+    return re.sub(r'(^|&& )(?=target/)', r'\1tools/x86 run ', by_compiler)
+
+
 def printed(line: str) -> str:
-    run = subprocess.run(line, shell=True, stdout=subprocess.PIPE, stderr=subprocess.STDOUT, text=True)
+    run = subprocess.run(on_this_machine(line), shell=True, stdout=subprocess.PIPE, stderr=subprocess.STDOUT, text=True)
     if run.returncode:
         sys.exit(f'{line}: exit status {run.returncode}\n{run.stdout}')
     return run.stdout
 
 
 def main() -> int:
+    rust = subprocess.run(['tools/x86', 'rust']).returncode == 0
     for section in SECTIONS:
+        if 'Rust' in section and not rust:
+            continue
         for line in lines_of(section):
             found = printed(line)
             if '-v' in sys.argv:

@@ -14,14 +14,14 @@ sys.path.insert(0, '.')
 from reference import survey  # noqa: E402
 from reference.scripts import script  # noqa: E402
 
-PROGRAM = Path('target/bin/survey')
+PROGRAM = ('tools/x86', 'run', 'target/bin/survey')
 KEPT = Path('target/fuzz.txt')
 CALLS = 1500  # of a script
 
 
 def printed(text: str) -> str:
     """What the proved program answers to a script."""
-    run = subprocess.run([PROGRAM], input=text.encode('latin-1'), stdout=subprocess.PIPE, check=True)
+    run = subprocess.run(PROGRAM, input=text.encode('latin-1'), stdout=subprocess.PIPE, check=True)
     return run.stdout.decode('latin-1')
 
 
