@@ -6,12 +6,12 @@ use Rattle.measure.specs.Rounding.{nearest}
 use Rattle.measure.specs.Kinds.{kindOf}
 use Rattle.measure.specs.Ranges.{within}
 use Rattle.measure.specs.Allowances.{hatchwayAllowance, hatchwayExcess, ballastOver}
-use Rattle.spaces.specs.Space.{mayTake}
+use Rattle.standard.specs.Standings.{mayTake}
 use Rattle.spaces.specs.Enclosure.{above}
-use Rattle.spaces.specs.Gross.{grossOver, gross, net, unjustified}
+use Rattle.standard.specs.Gross.{grossOver, gross, net, unjustified}
 use Rattle.sheet.specs.Sheet.{standing, usable, blank}
 use Rattle.sheet.specs.Calls.{reported}
-use Rattle.spaces.specs.Records.{recordNumber}
+use Rattle.standard.specs.Records.{recordNumber}
 use Rattle.sheet.specs.declared.sheet.Sheet.{Sheet}
 use Rattle.sheet.specs.declared.calls.Reported.{Reported}
 use Rattle.sheet_laws.proofs.Resumable.{resumable-exactly}

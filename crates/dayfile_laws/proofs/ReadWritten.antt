@@ -6,10 +6,10 @@ use native.Mathlib.Omega.{arith}
 use lib.ListN.{length, take, drop, length-drop, take-append-drop, drop-of-length-le}
 use lib.Seq.{take-all, drop-drop}
 use Rattle.measure.proofs.laws.Volumes.{at-most-drop}
-use Rattle.spaces.specs.Gross.{gross, net}
+use Rattle.standard.specs.Gross.{gross, net}
 use Rattle.spaces.specs.declared.space.Space.{Space}
 use Rattle.sheet.specs.Sheet.{standing}
-use Rattle.spaces.specs.Records.{firstRefused}
+use Rattle.standard.specs.Records.{firstRefused}
 use Rattle.sheet.specs.declared.sheet.Sheet.{Sheet}
 use Rattle.sheet_laws.proofs.Resumable.{resumable-exactly, OfRecords}
 use Rattle.dayfile.specs.Numbers.{Bytes}

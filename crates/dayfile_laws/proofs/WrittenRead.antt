@@ -8,13 +8,13 @@ use borrow.Author.Tests.{le-ltb, eq-eqb}
 use lib.Dec.{ltb}
 use lib.ListN.{length, take, drop, getD, length-append}
 use lib.Seq.{length-take-le, drop-at, drop-append-seam}
-use Rattle.spaces.specs.Gross.{gross, net}
+use Rattle.standard.specs.Gross.{gross, net}
 use Rattle.spaces.specs.declared.space.Space.{Space}
 use Rattle.spaces_laws.proofs.Tests.{and-holds-of}
 use Rattle.spaces_laws.proofs.Lists.{_∈_}
 use Rattle.sheet.specs.Sheet.{standing, usable}
 use Rattle.sheet.specs.Calls.{counted, reported}
-use Rattle.spaces.specs.Records.{firstRefused}
+use Rattle.standard.specs.Records.{firstRefused}
 use Rattle.sheet.specs.declared.sheet.Sheet.{Sheet}
 use Rattle.sheet.proofs.laws.Sheet.{usable-counts}
 use Rattle.sheet.proofs.laws.Report.{Given, given}

@@ -16,14 +16,14 @@ use Rattle.measure.specs.Refusals.{firstOf}
 use Rattle.measure.specs.Volumes.{hundredths}
 use Rattle.measure.specs.Offsets.{inRange, counted as rightlyCounted, measured}
 use Rattle.spaces.specs.Row.{sumOf}
-use Rattle.spaces.specs.Rules.{entryTests, withdrawTests, markTests}
-use Rattle.spaces.specs.Gross.{gross, net, unjustified}
+use Rattle.standard.specs.Rules.{entryTests, withdrawTests, markTests}
+use Rattle.standard.specs.Gross.{gross, net, unjustified}
 use Rattle.spaces.specs.declared.space.Space.{Space}
 use Rattle.spaces.specs.declared.sums.Amount.the-variants.{Lengths}
 use Rattle.spaces.proofs.laws.Cases.{by-test}
 use Rattle.sheet.specs.Sheet.{standing, usable, blank}
 use Rattle.sheet.specs.Calls.{openedWith, entered, withdrawn, marked, undone, redone, counted, reported}
-use Rattle.spaces.specs.Records.{misrecorded, recordNumber, firstRefused}
+use Rattle.standard.specs.Records.{misrecorded, recordNumber, firstRefused}
 use Rattle.sheet.specs.Resume.{resumed}
 use Rattle.sheet.specs.declared.sheet.Sheet.{Sheet}
 use Rattle.sheet.specs.declared.calls.Entry.{Entry}

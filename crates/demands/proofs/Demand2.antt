@@ -23,7 +23,7 @@ use Rattle.measure_laws.proofs.Rounding.{nearest-is}
 use Rattle.measure_laws.proofs.Parts.{nearest-parts-is}
 use Rattle.measure_laws.proofs.Offsets.{measured-exactly}
 use Rattle.spaces.specs.Row.{sumOf}
-use Rattle.spaces.specs.Gross.{exempt, grossOver, gross}
+use Rattle.standard.specs.Gross.{exempt, grossOver, gross}
 use Rattle.spaces.specs.declared.space.Space.{Space}
 use Rattle.spaces.specs.declared.sums.Amount.the-variants.{Hull, Hatchways, Deducted}
 use Rattle.spaces_laws.proofs.Valid.{valid-is-sound}

@@ -24,15 +24,16 @@ use Rattle.measure.specs.declared.kinds.Kind.{Kind}
 use Rattle.measure.specs.declared.units.Hundredths.{Hundredths}
 use Rattle.measure.specs.declared.thirds.Division.{Division}
 use Rattle.measure.specs.declared.offsets.Measured.{Measured}
-use Rattle.spaces.specs.Space.{emptySpace, mayTake}
+use Rattle.spaces.specs.Space.{emptySpace}
+use Rattle.standard.specs.Standings.{mayTake}
 use Rattle.spaces.specs.Row.{used as usedOf, find as findIn, foundAs, placeOf, stands as standsIn}
-use Rattle.spaces.specs.Rules.{entryNumber, withdrawNumber, markNumber}
-use Rattle.spaces.specs.Records.{firstRefused}
-use Rattle.spaces.specs.Gross.{reckoned}
+use Rattle.standard.specs.Rules.{entryNumber, withdrawNumber, markNumber}
+use Rattle.standard.specs.Records.{firstRefused}
+use Rattle.standard.specs.Gross.{reckoned}
 use Rattle.spaces.specs.declared.space.Space.{Space}
 use Rattle.spaces.specs.declared.row.Found.{Found}
-use Rattle.spaces.specs.declared.gross.Reckoning.{Reckoning}
-use Rattle.spaces.specs.declared.records.RefusedRecord.{RefusedRecord}
+use Rattle.standard.specs.declared.gross.Reckoning.{Reckoning}
+use Rattle.standard.specs.declared.records.RefusedRecord.{RefusedRecord}
 use Rattle.sheet.specs.Sheet.{usable, blank, lengthOf, standingCount, spaceAt, placesOf}
 use Rattle.sheet.specs.Calls.{openedWith, entered, withdrawn, marked, undone, redone, counted, reported}
 use Rattle.sheet.specs.Resume.{resumed}

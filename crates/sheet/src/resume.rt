@@ -4,7 +4,7 @@ use crate::row::with_first;
 use crate::sheet::Sheet;
 use measure::ranges::tonnage_length_fits;
 use measure::units::Hundredths;
-use spaces::records::first_refused;
+use standard::records::first_refused;
 use spaces::row::used;
 use spaces::space::Space;
 ghost use mathlib.Core.Path.{_≡_};

@@ -8,7 +8,7 @@ use native.Mathlib.Omega.{arith}
 use borrow.Author.Tests.{eqb-true, eqb-false}
 use lib.Dec.{eqb, ltb}
 use Rattle.measure.specs.Volumes.{hundredths}
-use Rattle.spaces.specs.Rules.{entryTests, entryNumber, withdrawTests, withdrawNumber, markTests, markNumber}
+use Rattle.standard.specs.Rules.{entryTests, entryNumber, withdrawTests, withdrawNumber, markTests, markNumber}
 use Rattle.spaces.proofs.laws.Cases.{by-test}
 use Rattle.spaces_laws.proofs.Valid.{valid-is-sound}
 use Rattle.spaces_laws.proofs.Changes.{without, marked as markedById}

@@ -9,7 +9,7 @@ use native.Mathlib.Omega.{arith}
 use Rattle.spaces.specs.declared.space.Space.{Space}
 use Rattle.spaces.specs.declared.sums.Amount.the-variants.{Deducted}
 use Rattle.spaces.specs.Row.{sumOf}
-use Rattle.spaces.specs.Valid.{Valid}
+use Rattle.standard.specs.Valid.{Valid}
 use Rattle.spaces_laws.proofs.Twice.{neither-above-the-other, taken-off-at-most-whole}
 use Rattle.spaces_laws.proofs.Report.{report-exact, net-at-most-gross}
 use Rattle.sheet.specs.Sheet.{standing, blank}

@@ -7,7 +7,7 @@ use mathlib.Core.List.{List, [], _∷_}
 use Rattle.measure.specs.Rounding.{nearest}
 use Rattle.measure.specs.Allowances.{hatchwayAllowance, hatchwayExcess, ballastOver}
 use Rattle.measure_laws.proofs.Figures as measured
-use Rattle.spaces.specs.Gross.{grossOver, gross, net, unjustified}
+use Rattle.standard.specs.Gross.{grossOver, gross, net, unjustified}
 use Rattle.spaces.specs.declared.space.Space.{Space}
 use Rattle.sheet.specs.Sheet.{usable, blank}
 use Rattle.sheet.specs.Changes.{withStanding}

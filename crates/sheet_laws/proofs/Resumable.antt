@@ -16,8 +16,8 @@ use Rattle.measure.specs.declared.units.Hundredths.{Hundredths}
 use Rattle.measure.proofs.laws.Tests.{and-left, and-right}
 use Rattle.measure_laws.proofs.Offsets.{measured-exactly, measured-at-most}
 use Rattle.spaces.specs.declared.space.Space.{Space}
-use Rattle.spaces.specs.Rules.{entryTests, entryNumber, withdrawNumber, markNumber}
-use Rattle.spaces.specs.Valid.{ValidFrom, done, next, Valid}
+use Rattle.standard.specs.Rules.{entryTests, entryNumber, withdrawNumber, markNumber}
+use Rattle.standard.specs.Valid.{ValidFrom, done, next, Valid}
 use Rattle.spaces.proofs.laws.Cases.{by-test}
 use Rattle.spaces_laws.proofs.Tests.{or-fails-of}
 use Rattle.spaces_laws.proofs.Lists.{_∈_, all-snoc}
@@ -28,7 +28,7 @@ use Rattle.spaces_laws.proofs.Mark.{mark-by-id-keeps-valid}
 use Rattle.sheet.specs.Sheet.{blank}
 use Rattle.sheet.specs.Changes.{withStanding}
 use Rattle.sheet.specs.Calls.{openedWith, entryOf}
-use Rattle.spaces.specs.Records.{misrecorded, recordNumber, firstRefused}
+use Rattle.standard.specs.Records.{misrecorded, recordNumber, firstRefused}
 use Rattle.sheet.specs.Resume.{resumed}
 use Rattle.sheet.specs.declared.sheet.Sheet.{Sheet}
 use Rattle.sheet.specs.declared.calls.Entry.{Entry}

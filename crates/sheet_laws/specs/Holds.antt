@@ -6,14 +6,14 @@ use mathlib.Core.List.{List, []}
 use lib.ListN.{length}
 use Rattle.spaces.specs.Space.{isPlain}
 use Rattle.spaces.specs.Row.{sumOf}
-use Rattle.spaces.specs.Gross.{exempt, gross}
+use Rattle.standard.specs.Gross.{exempt, gross}
 use Rattle.spaces.specs.declared.space.Space.{Space}
 use Rattle.spaces.specs.declared.sums.Amount.the-variants.{Hull, Deducted}
 use Rattle.spaces_laws.proofs.Lists.{_∈_}
 use Rattle.spaces_laws.proofs.Walk.{Above}
 use Rattle.sheet.specs.Sheet.{standing, usable}
 use Rattle.sheet.specs.Calls.{undone, redone, counted, reported}
-use Rattle.spaces.specs.Records.{firstRefused}
+use Rattle.standard.specs.Records.{firstRefused}
 use Rattle.sheet.specs.declared.sheet.Sheet.{Sheet}
 use Rattle.sheet.specs.declared.calls.Reported.{Reported}
 use Rattle.sheet_laws.specs.Run.{Call, after, Log, replay, logOf, OpenChanges, countsOf}

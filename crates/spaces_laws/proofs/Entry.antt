@@ -10,10 +10,11 @@ use lib.Dec.{ltb}
 use lib.ListN.{length}
 use Rattle.spaces.specs.declared.space.Space.{Space}
 use Rattle.spaces.specs.declared.sums.Amount.the-variants.{Inside, Lengths}
-use Rattle.spaces.specs.Space.{isUnderDeck, isHatchway, isRoom, isPlain, mayTake}
+use Rattle.spaces.specs.Space.{isUnderDeck, isHatchway, isRoom, isPlain}
+use Rattle.standard.specs.Standings.{mayTake}
 use Rattle.spaces.specs.Row.{find, isSome, sumOf}
 use Rattle.spaces.specs.Enclosure.{enclosing, above, level, allPlain}
-use Rattle.spaces.specs.Rules.{idRefused, unhoused, inHatchway, misplaced, tooDeep, offTwice, passesEnclosing, overfull, noPlace, entryTests, entryNumber}
+use Rattle.standard.specs.Rules.{idRefused, unhoused, inHatchway, misplaced, tooDeep, offTwice, passesEnclosing, overfull, noPlace, entryTests, entryNumber}
 use Rattle.spaces.proofs.laws.Cases.{by-test, or-fails}
 use Rattle.spaces_laws.proofs.Tests.{or-fails-of, and-fails, and-fails-of}
 use Rattle.spaces_laws.proofs.Refusals.{none-applies, accepted-of-none}

@@ -12,11 +12,12 @@ use lib.ListN.{length, length-map}
 use lib.Seq.{append-snoc}
 use Rattle.spaces.specs.declared.space.Space.{Space}
 use Rattle.spaces.specs.declared.sums.Amount.the-variants.{Inside, Lengths}
-use Rattle.spaces.specs.Space.{isRoom, isPlain, mayTake}
+use Rattle.spaces.specs.Space.{isRoom, isPlain}
+use Rattle.standard.specs.Standings.{mayTake}
 use Rattle.spaces.specs.Row.{find, stands, amountOf, sumBy}
 use Rattle.spaces.specs.Enclosure.{enclosing, upward, above, allPlain, below}
-use Rattle.spaces.specs.Rules.{cannotTake, plainAbove, markedTwice, markNumber}
-use Rattle.spaces.specs.Valid.{ValidFrom, done, next, Valid}
+use Rattle.standard.specs.Rules.{cannotTake, plainAbove, markedTwice, markNumber}
+use Rattle.standard.specs.Valid.{ValidFrom, done, next, Valid}
 use Rattle.spaces.proofs.laws.Cases.{by-test, by-option, not-both}
 use Rattle.spaces.proofs.laws.Enclosure.{upward-next, upward-none}
 use Rattle.spaces_laws.proofs.Tests.{and-fails, and-fails-of, and-holds}

@@ -10,8 +10,8 @@ use Rattle.measure.specs.Allowances.{hatchwayExcess}
 use Rattle.spaces.specs.declared.space.Space.{Space}
 use Rattle.spaces.specs.declared.sums.Amount.the-variants.{Hull, Hatchways, Exempt, Deducted}
 use Rattle.spaces.specs.Row.{amountOf, sumOf}
-use Rattle.spaces.specs.Gross.{exempt, grossOver, gross, net}
-use Rattle.spaces.specs.Valid.{Valid}
+use Rattle.standard.specs.Gross.{exempt, grossOver, gross, net}
+use Rattle.standard.specs.Valid.{Valid}
 use Rattle.spaces_laws.proofs.Lists.{_∈_, sum-of-sums, sum-of-each-at-most}
 use Rattle.spaces_laws.proofs.Standings.{hull-or-hatchway}
 use Rattle.spaces_laws.proofs.Valid.{valid-is-sound}

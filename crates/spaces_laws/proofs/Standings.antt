@@ -6,7 +6,8 @@ use native.Mathlib.Omega.{arith}
 use borrow.Author.Tests.{eqb-true}
 use lib.Dec.{eqb}
 use Rattle.spaces.specs.declared.space.Space.{Space}
-use Rattle.spaces.specs.Space.{isHull, isHatchway, mayTake}
+use Rattle.spaces.specs.Space.{isHull, isHatchway}
+use Rattle.standard.specs.Standings.{mayTake}
 use Rattle.spaces.specs.Row.{only}
 use Rattle.spaces.proofs.laws.Cases.{by-test, not-both}
 use Rattle.spaces_laws.proofs.Lists.{only-at-most}

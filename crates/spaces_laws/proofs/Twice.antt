@@ -12,8 +12,8 @@ use Rattle.spaces.specs.declared.sums.Amount.the-variants.{Inside, Hull, Exempt
 use Rattle.spaces.specs.Space.{isHatchway, isRoom, isPlain}
 use Rattle.spaces.specs.Row.{only, amountOf, sumBy, sumOf}
 use Rattle.spaces.specs.Enclosure.{above, allPlain, below}
-use Rattle.spaces.specs.Gross.{exempt}
-use Rattle.spaces.specs.Valid.{Valid}
+use Rattle.standard.specs.Gross.{exempt}
+use Rattle.standard.specs.Valid.{Valid}
 use Rattle.spaces.proofs.laws.Cases.{by-test, not-both}
 use Rattle.spaces_laws.proofs.Tests.{and-holds, and-holds-of, and-fails-of}
 use Rattle.spaces_laws.proofs.Lists.{_∈_, found-stands, only-at-most, sum-at-most, sum-of-sums, one-within-sum, sum-of-none, sums-exchange, inside-adds}

@@ -11,11 +11,12 @@ use lib.ListN.{length, length-append}
 use lib.Seq.{append-snoc}
 use Rattle.spaces.specs.declared.space.Space.{Space}
 use Rattle.spaces.specs.declared.sums.Amount.the-variants.{Inside, Lengths}
-use Rattle.spaces.specs.Space.{isUnderDeck, isRoom, isPlain, mayTake}
+use Rattle.spaces.specs.Space.{isUnderDeck, isRoom, isPlain}
+use Rattle.standard.specs.Standings.{mayTake}
 use Rattle.spaces.specs.Row.{find, amountOf, sumOf}
 use Rattle.spaces.specs.Enclosure.{above, level, allPlain}
-use Rattle.spaces.specs.Rules.{entryNumber}
-use Rattle.spaces.specs.Valid.{ValidFrom, done, next, Valid}
+use Rattle.standard.specs.Rules.{entryNumber}
+use Rattle.standard.specs.Valid.{ValidFrom, done, next, Valid}
 use Rattle.spaces.proofs.laws.Cases.{by-test, none-not-some, some-same}
 use Rattle.spaces.proofs.laws.Row.{sum-append}
 use Rattle.spaces_laws.proofs.Tests.{and-holds}

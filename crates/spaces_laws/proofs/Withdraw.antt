@@ -15,8 +15,8 @@ use Rattle.spaces.specs.declared.sums.Amount.the-variants.{Inside, Rooms, Lengt
 use Rattle.spaces.specs.Space.{isRoom}
 use Rattle.spaces.specs.Row.{find, stands, amountOf, sumBy, sumOf}
 use Rattle.spaces.specs.Enclosure.{above, enclosing, upward}
-use Rattle.spaces.specs.Rules.{enclosesRoom, withdrawNumber}
-use Rattle.spaces.specs.Valid.{ValidFrom, done, next, Valid}
+use Rattle.standard.specs.Rules.{enclosesRoom, withdrawNumber}
+use Rattle.standard.specs.Valid.{ValidFrom, done, next, Valid}
 use Rattle.spaces.proofs.laws.Cases.{by-test, by-option}
 use Rattle.spaces.proofs.laws.Enclosure.{upward-next, upward-none}
 use Rattle.spaces_laws.proofs.Refusals.{none-applies, accepted-of-none}

@@ -11,16 +11,16 @@ use Rattle.measure.specs.Kinds.{kindOf}
 use Rattle.measure.specs.Ranges.{within, tonnageLengths}
 use Rattle.measure.specs.Refusals.{firstOf}
 use Rattle.spaces.specs.Space.{emptySpace}
-use Rattle.spaces.specs.Gross.{gross, net}
+use Rattle.standard.specs.Gross.{gross, net}
 use Rattle.spaces.specs.declared.space.Space.{Space}
 use Rattle.spaces.proofs.laws.Cases.{by-test, or-fails}
 use Rattle.sheet.specs.Sheet.{standing, blank}
 use Rattle.sheet.specs.Changes.{withStanding}
 use Rattle.sheet.specs.Calls.{reported}
-use Rattle.spaces.specs.Records.{recordNumber, firstRefused}
+use Rattle.standard.specs.Records.{recordNumber, firstRefused}
 use Rattle.sheet.specs.Resume.{resumed}
 use Rattle.sheet.specs.declared.sheet.Sheet.{Sheet}
-use Rattle.spaces.specs.declared.records.RefusedRecord.{RefusedRecord}
+use Rattle.standard.specs.declared.records.RefusedRecord.{RefusedRecord}
 use Rattle.sheet.specs.declared.resume.Resumed.{Resumed}
 use Rattle.sheet.proofs.laws.Calls.{passed, after-call}
 use Rattle.dayfile.specs.Fields.{fitting}

@@ -6,7 +6,7 @@ use native.Mathlib.Omega.{arith}
 use borrow.Author.Tests.{lt-ltb, le-ltb, ne-eqb}
 use lib.ListN.{length, take, length-append}
 use lib.Seq.{sets, sets-eq, length-take-le}
-use Rattle.spaces.specs.Gross.{gross, net}
+use Rattle.standard.specs.Gross.{gross, net}
 use Rattle.spaces.specs.declared.space.Space.{Space}
 use Rattle.sheet.specs.Sheet.{standing}
 use Rattle.sheet.specs.Calls.{reported}

@@ -12,7 +12,7 @@ use mathlib.Core.Bool.{Bool, true, not}
 use mathlib.Core.List.{List, _∷_}
 use lib.Dec.{eqb, ltb}
 use Rattle.measure.specs.Refusals.{firstOf}
-use Rattle.spaces.specs.Rules.{entryTests, entryNumber}
+use Rattle.standard.specs.Rules.{entryTests, entryNumber}
 use Rattle.spaces.specs.declared.space.Space.{Space}
 use Rattle.measure.specs.declared.offsets.Measured.{Measured}
 use Rattle.sheet.specs.Calls.{answered, changed, entryOf, measuredFor, entered}
