@@ -20,10 +20,12 @@ use Rattle.dayfile.specs.Reading.{lastTrailer, startOf, lastRecords, faultIn, s
 use Rattle.dayfile.proofs.laws.Trailer.{tonnage-length-fits}
 use Rattle.dayfile.proofs.laws.Writing.{trailer-is}
 use Rattle.dayfile.proofs.laws.Reading.{Framed, framed, count-fits, judged, ReadingAccepted, reading-accepted}
+use Rattle.dayfile_laws.specs.Writing.{Puts}
+use Rattle.dayfile_laws.specs.Day.{ResumableSheet, Writable, asRead}
 use Rattle.dayfile_laws.proofs.Records.{records-written, trailer-written}
-use Rattle.dayfile_laws.proofs.Writable.{ResumableSheet, Writable, standing-same, length-same, has-200-places, made-again}
-use Rattle.dayfile_laws.proofs.Writing.{Puts, puts-its-bytes}
-use Rattle.dayfile_laws.proofs.WrittenRead.{asRead, has-places, written-then-read}
+use Rattle.dayfile_laws.proofs.Writable.{standing-same, length-same, has-200-places, made-again}
+use Rattle.dayfile_laws.proofs.Writing.{puts-its-bytes}
+use Rattle.dayfile_laws.proofs.WrittenRead.{has-places, written-then-read}
 
 -- ---- its sheet, and the bytes of it
 

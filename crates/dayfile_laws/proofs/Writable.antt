@@ -14,24 +14,9 @@ use Rattle.sheet.specs.Sheet.{standing, usable, blank}
 use Rattle.sheet.specs.Changes.{withStanding}
 use Rattle.sheet.specs.Calls.{counted, reported}
 use Rattle.sheet.specs.declared.sheet.Sheet.{Sheet}
-use Rattle.sheet_laws.proofs.Resumable.{Resumable}
-
--- `resume` accepts the standing spaces with the tonnage length; and the sheet has its 200 places, as every one in the code has
-pub record ResumableSheet (s : Sheet) : Type 0 where
-  pub places : length (s .spaces) ≡ 200
-  pub length-in-range : within tonnageLengths (s .length) ≡ true
-  pub resumable : Resumable (s .length) (standing s)
-
--- and a report with the justified mark is given: so it is written, wherever there is room
-pub record Writable (s : Sheet) (justified : ℕ) : Type 0 where
-  pub sheet : ResumableSheet s
-  pub reports : reported s justified .number ≡ 0
+use Rattle.dayfile_laws.specs.Day.{sheetWith}
 
 -- ---- the sheet that `resume` makes
-
--- of some records with a tonnage length
-abbrev pub sheetWith : ℕ → List Space → Sheet
-sheetWith L xs = withStanding xs (blank true L)
 
 module _ (L : ℕ) (xs : List Space) where
   pub standing-same : standing (sheetWith L xs) ≡ xs

@@ -28,9 +28,11 @@ use Rattle.dayfile.specs.Handed.{readAs, eachReadAs}
 use Rattle.dayfile.specs.declared.reading.Reading.{Reading}
 use Rattle.dayfile.proofs.laws.Writing.{length-trailer, length-sheet}
 use Rattle.dayfile.proofs.laws.Reading.{by-distance, judged, read-judged, same-figures}
+use Rattle.dayfile_laws.specs.Reading.{ReadBack}
+use Rattle.dayfile_laws.specs.Day.{ResumableSheet, Writable, sheetWith, asRead}
 use Rattle.dayfile_laws.proofs.Fields.{InFields, fitting-of}
 use Rattle.dayfile_laws.proofs.Records.{Fits, records-read, spaces-of-numbers, trailer-read}
-use Rattle.dayfile_laws.proofs.Writable.{ResumableSheet, Writable, sheetWith, standing-same, length-same, is-usable, same-report, none-open}
+use Rattle.dayfile_laws.proofs.Writable.{standing-same, length-same, is-usable, same-report, none-open}
 use Rattle.dayfile_laws.proofs.Fitting.{in-range, each-fits, gross-at-most, net-at-most}
 use Rattle.dayfile_laws.proofs.Writing.{placed-up-to, write-accepted}
 
@@ -50,10 +52,6 @@ none-faulty : (L : ℕ) (xs : List Space) → ((x : Space) → x ∈ xs → Fits
 none-faulty L xs fit none = judged L [] (map numbersOf xs) .none-faulty (rw (each-read-as xs fit) none)
 
 -- ---- the sheet as it is read
-
--- open, with the same spaces and tonnage length, and no open changes
-abbrev pub asRead : Sheet → Sheet
-asRead s = sheetWith (s .length) (standing s)
 
 module _ (s : Sheet) (justified : ℕ) (w : Writable s justified) where
   report-given : Given s justified (reported s justified)
@@ -158,20 +156,6 @@ module _ (s : Sheet) (justified : ℕ) (w : Writable s justified) where
         ∙ read-judged file (asRead s) t (length pre) (sym sheet-is) (sym trailer-is) (sym starts) ends-in-sheet no-fault)
 
 -- ---- the same in the paper's words
-
--- a reading has what was written with a mark from a place on
-pub record ReadBack (s : Sheet) (justified start : ℕ) (r : Reading) : Type 0 where
-  pub accepted : r .number ≡ 0
-  -- the same spaces, in the same order
-  pub same-spaces : standing (r .sheet) ≡ standing s
-  pub same-length : r .sheet .length ≡ s .length
-  pub same-mark : r .justified ≡ justified
-  -- "The sheet read is open, with no open changes."
-  pub is-open : usable (r .sheet) ≡ true
-  pub none-undoable : counted (r .sheet) .undoable ≡ 0
-  pub none-redoable : counted (r .sheet) .redoable ≡ 0
-  -- "where the sheet starts"
-  pub starts : r .start ≡ start
 
 pub has-read-back : (s : Sheet) (justified start : ℕ) → Writable s justified → ReadBack s justified start (acceptedReading (asRead s) justified start)
 has-read-back s justified start w =

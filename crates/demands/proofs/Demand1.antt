@@ -6,6 +6,7 @@ use Prim.Native.Nat.{ℕ, _-_}
 use mathlib.Core.Path.{_≡_, refl, sym, ap, _∙_}
 use mathlib.Core.Bool.{Bool, true, false, cond, not, _&&_, _||_}
 use mathlib.Core.List.{List, [], _∷_, _++_}
+use mathlib.Core.Logic.{_↔_}
 use native.Mathlib.Omega.{arith}
 use borrow.Author.Tests.{not-true, ne-eqb, eq-eqb, eqb-true, eqb-false, le-ltb}
 use lib.Dec.{eqb, ltb, lit<}
@@ -32,11 +33,13 @@ use Rattle.sheet_laws.proofs.Runs.{refused-changes-nothing}
 use Rattle.dayfile.specs.Trailer.{sheetSize}
 use Rattle.dayfile.specs.Writing.{writeNumber, written, writtenInto}
 use Rattle.dayfile.specs.Record.{spacesOf}
+use Rattle.dayfile.specs.declared.reading.Reading.{Reading}
 use Rattle.dayfile.specs.Reading.{lastNumbers, lastTrailer, startOf, lastRecords, noSheet, faultIn, sheetIn, readNumber, refusedReading, readOf}
 use Rattle.dayfile.proofs.laws.Trailer.{within-trailer}
-use Rattle.dayfile.proofs.laws.Reading.{framed, count-fits}
+use Rattle.dayfile.proofs.laws.Reading.{framed, count-fits, read-17}
+use Rattle.dayfile_laws.specs.Faults.{FirstFault, NoFault, FaultExactly}
 use Rattle.dayfile_laws.proofs.Writable.{is-usable}
-use Rattle.dayfile_laws.proofs.Faults.{FaultFound, fault-found}
+use Rattle.dayfile_laws.proofs.Faults.{fault-exactly}
 use Rattle.dayfile_laws.proofs.ReadWritten.{length-spaces}
 use Rattle.demands.proofs.Reached.{DayCall, call, write, handedBack, numberOf}
 use Rattle.demands.proofs.Tests.{FirstGiven, LowestGiven, first-given, lowest-given, spliced, either}
@@ -199,6 +202,60 @@ answered-number file = by-test (eqb (readNumber file) 0) (λ t. rw t (sym (eqb-t
 pub read-refused : (file : List ℕ) → FirstGiven (readTests file) (readOf file .number)
 read-refused file = rw (answered-number file ∙ read-number file) (first-given (readTests file) (omega arith))
 
+-- 17 as a statement on the records (16 comes before it): given with a position exactly when the record there is faulty after those before
+-- it and none of these is, and not given exactly when none is
+pub record Given17 (file : List ℕ) : Type 0 where
+  pub with-position : (position : ℕ)
+      → ((readOf file .number ≡ 17) × (readOf file .position ≡ position)) ↔ FirstFault (lastTrailer file .«tonnage_length») (lastRecords file) position
+  pub not-given : (readOf file .number ≡ 17 → ⊥) ↔ NoFault (lastTrailer file .«tonnage_length») (lastRecords file)
+
+with-17 : (a b c d e : Bool) → firstOf ((a, 16) ∷ (b, 17) ∷ (c, 13) ∷ (d, 14) ∷ (e, 18) ∷ []) ≡ 17 → (a ≡ false) × (b ≡ true)
+with-17 true b c d e z = absurd (omega arith)
+with-17 false true c d e z = (refl, refl)
+with-17 false false true d e z = absurd (omega arith)
+with-17 false false false true e z = absurd (omega arith)
+with-17 false false false false true z = absurd (omega arith)
+with-17 false false false false false z = absurd (omega arith)
+
+module _ (file : List ℕ) where
+  after-16 : readOf file .number ≡ 17 → (noSheet file ≡ false) × (not (eqb (faultIn file) 0) ≡ true)
+  after-16 z =
+      let s = sheetIn file in
+      let fault = not (eqb (faultIn file) 0) in
+      with-17 (noSheet file) fault (lengthsShort s) (ballastUnjustified s (lastTrailer file .justified)) (figuresWrong file)
+      (sym (answered-number file ∙ read-number file) ∙ z)
+
+  exactly : FaultExactly (lastTrailer file .«tonnage_length») (lastRecords file) (faultIn file)
+  unfolding faultIn
+  exactly = fault-exactly (lastTrailer file .«tonnage_length») (lastRecords file)
+
+  pub read-17-exactly : noSheet file ≡ false → Given17 file
+  unfolding refusedReading
+  read-17-exactly ends-in-sheet =
+      by-test (eqb (faultIn file) 0)
+      (λ t.
+      let z = eqb-true _ 0 t in
+      let never : readOf file .number ≡ 17 → ⊥ = λ e. eqb-false _ 0 (not-true _ (after-16 e .1)) z in
+      record {
+        with-position = λ p. (
+          λ given. absurd (never (given .0)),
+          λ a. absurd (omega (arith, z, a .at-least-1, exactly .first-exactly p (a .at-least-1) .1 a)),
+        );
+        not-given = (λ e. exactly .none-exactly .0 z, λ none. never);
+      })
+      (λ f.
+      let some = eqb-false _ 0 f in
+      let reading = read-17 file ends-in-sheet some in
+      let number : readOf file .number ≡ 17 = sym (ap (λ (r : Reading). r .number) reading) in
+      let position : faultIn file ≡ readOf file .position = ap (λ (r : Reading). r .position) reading in
+      record {
+        with-position = λ p. (
+          λ given. exactly .first-exactly p (omega (arith, some)) .0 (position ∙ given .1),
+          λ a. (number, sym position ∙ exactly .first-exactly p (a .at-least-1) .1 a),
+        );
+        not-given = (λ e. absurd (e number), λ none. absurd (some (exactly .none-exactly .1 none)));
+      })
+
 -- ---- "changes neither sheet nor buffer"
 
 -- "A refused change, undo or redo hands back the sheet as it came", and so does every other refused call on a sheet
@@ -243,25 +300,8 @@ pub record NothingRead (file : List ℕ) : Type 0 where
   pub not-open : usable (readOf file .sheet) ≡ false
   pub mark-0 : readOf file .justified ≡ 0
   pub start-0 : readOf file .start ≡ 0
-  pub position-with-17 : readOf file .number ≡ 17 → FaultFound (lastTrailer file .«tonnage_length») [] (lastRecords file) (readOf file .position)
+  pub position-with-17 : readOf file .number ≡ 17 → FirstFault (lastTrailer file .«tonnage_length») (lastRecords file) (readOf file .position)
   pub position-0 : (readOf file .number ≡ 17 → ⊥) → readOf file .position ≡ 0
-
-with-17 : (a b c d e : Bool) → firstOf ((a, 16) ∷ (b, 17) ∷ (c, 13) ∷ (d, 14) ∷ (e, 18) ∷ []) ≡ 17 → b ≡ true
-with-17 true b c d e z = absurd (omega arith)
-with-17 false true c d e z = refl
-with-17 false false true d e z = absurd (omega arith)
-with-17 false false false true e z = absurd (omega arith)
-with-17 false false false false true z = absurd (omega arith)
-with-17 false false false false false z = absurd (omega arith)
-
-fault-position : (file : List ℕ) → readNumber file ≡ 17 → FaultFound (lastTrailer file .«tonnage_length») [] (lastRecords file) (faultIn file)
-unfolding faultIn
-fault-position file z =
-    let s = sheetIn file in
-    let t = lastTrailer file in
-    let fault = not (eqb (faultIn file) 0) in
-    let applies = with-17 (noSheet file) fault (lengthsShort s) (ballastUnjustified s (t .justified)) (figuresWrong file) (sym (read-number file) ∙ z) in
-    fault-found (t .«tonnage_length») [] (lastRecords file) (eqb-false _ 0 (not-true _ applies))
 
 pub refused-read-gives : (file : List ℕ) → (readOf file .number ≡ 0 → ⊥) → NothingRead file
 unfolding readOf refusedReading usable blank
@@ -273,8 +313,6 @@ refused-read-gives file refused =
       not-open = rw f;
       mark-0 = rw f;
       start-0 = rw f;
-      position-with-17 = λ e.
-          let z = sym (answered-number file) ∙ e in
-          rw (f, eq-eqb (readNumber file) 17 z) (fault-position file z);
+      position-with-17 = λ e. read-17-exactly file (after-16 file e .0) .with-position (readOf file .position) .0 (e, refl);
       position-0 = λ e. rw (f, ne-eqb (readNumber file) 17 (λ q. e (answered-number file ∙ q)));
     })

@@ -42,9 +42,11 @@ use Rattle.sheet_laws.proofs.Accepted.{enter-accepted}
 use Rattle.dayfile.specs.Numbers.{Bytes}
 use Rattle.dayfile.specs.Writing.{written, writtenInto}
 use Rattle.dayfile.specs.Reading.{readOf}
-use Rattle.dayfile_laws.proofs.Writable.{Writable}
-use Rattle.dayfile_laws.proofs.Writing.{write-accepted, Puts}
-use Rattle.dayfile_laws.proofs.WrittenRead.{ReadBack, has-read-back, written-anywhere}
+use Rattle.dayfile_laws.specs.Writing.{Puts}
+use Rattle.dayfile_laws.specs.Reading.{ReadBack}
+use Rattle.dayfile_laws.specs.Day.{Writable}
+use Rattle.dayfile_laws.proofs.Writing.{write-accepted}
+use Rattle.dayfile_laws.proofs.WrittenRead.{has-read-back, written-anywhere}
 use Rattle.dayfile_laws.proofs.ReadWritten.{written-back}
 use Rattle.demands.proofs.Reached.{Reached, reached-resumable}
 

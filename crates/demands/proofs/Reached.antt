@@ -13,7 +13,7 @@ use Rattle.sheet_laws.proofs.Resumable.{resumable-exactly, OfRecords, opened-of
 use Rattle.sheet_laws.proofs.AnyRun.{after-any-run-from-records}
 use Rattle.dayfile.specs.Writing.{written}
 use Rattle.dayfile.specs.Reading.{readOf}
-use Rattle.dayfile_laws.proofs.Writable.{ResumableSheet}
+use Rattle.dayfile_laws.specs.Day.{ResumableSheet}
 use Rattle.dayfile_laws.proofs.ReadWritten.{read-of-records}
 
 -- a sheet just opened, just read from any bytes, or just made of recorded spaces: L is its tonnage length, and the spaces `start` stand
