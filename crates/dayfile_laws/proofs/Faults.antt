@@ -1,7 +1,7 @@
 -- 17's position, both ways: it is that of the first faulty record, and 0 exactly where there is none. Stands on nothing of the file's
 -- numbers.
-use Prim.Native.Nat.{ℕ, zero, suc, _+_, _-_, _<_, _≤_}
-use mathlib.Core.Path.{_≡_, refl, sym, ap, _∙_}
+use Prim.Native.Nat.{ℕ, zero, suc, _+_, _-_, _<_}
+use mathlib.Core.Path.{_≡_, refl, ap, _∙_}
 use mathlib.Core.Bool.{Bool, true, false}
 use mathlib.Core.List.{List, [], _∷_, _++_, append-assoc, append-nil}
 use native.Mathlib.Omega.{arith}
@@ -12,7 +12,7 @@ use Rattle.spaces.specs.declared.space.Space.{Space}
 use Rattle.spaces.proofs.laws.Cases.{by-test, not-both}
 use Rattle.dayfile.specs.Record.{spaceOf, spacesOf}
 use Rattle.dayfile.specs.Reading.{faulty, firstFaulty}
-use Rattle.dayfile_laws.specs.Faults.{faultyAt, FirstFault, NoFault, FaultExactly}
+use Rattle.dayfile_laws.specs.Faults.{FirstFault, NoFault, FaultExactly}
 
 -- ---- after any spaces, so that the records go one by one
 
@@ -61,7 +61,7 @@ fault-found L before (numbers ∷ rest) some =
         none (suc i) h = rw append-assoc at (found .none-ahead i (omega arith))
 
 -- and 0 has none at all: neither the first nor one after it
-none-first : (L : ℕ) (before : List Space) (numbers : List ℕ) (rest : List (List ℕ)) → firstFaulty L before (numbers ∷ rest) ≡ 0
+pub none-first : (L : ℕ) (before : List Space) (numbers : List ℕ) (rest : List (List ℕ)) → firstFaulty L before (numbers ∷ rest) ≡ 0
     → (faulty L before numbers ≡ false) × (firstFaulty L (before ++ (spaceOf numbers ∷ [])) rest ≡ 0)
 none-first L before numbers rest z =
     by-test (faulty L before numbers)

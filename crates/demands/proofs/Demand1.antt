@@ -8,7 +8,7 @@ use mathlib.Core.Bool.{Bool, true, false, cond, not, _&&_, _||_}
 use mathlib.Core.List.{List, [], _∷_, _++_}
 use mathlib.Core.Logic.{_↔_}
 use native.Mathlib.Omega.{arith}
-use borrow.Author.Tests.{not-true, ne-eqb, eq-eqb, eqb-true, eqb-false, le-ltb}
+use borrow.Author.Tests.{not-true, ne-eqb, eqb-true, eqb-false, le-ltb}
 use lib.Dec.{eqb, ltb, lit<}
 use lib.ListN.{length, drop}
 use Rattle.measure.specs.Kinds.{kindOf}
@@ -217,44 +217,44 @@ with-17 false false false true e z = absurd (omega arith)
 with-17 false false false false true z = absurd (omega arith)
 with-17 false false false false false z = absurd (omega arith)
 
-module _ (file : List ℕ) where
-  after-16 : readOf file .number ≡ 17 → (noSheet file ≡ false) × (not (eqb (faultIn file) 0) ≡ true)
-  after-16 z =
-      let s = sheetIn file in
-      let fault = not (eqb (faultIn file) 0) in
-      with-17 (noSheet file) fault (lengthsShort s) (ballastUnjustified s (lastTrailer file .justified)) (figuresWrong file)
-      (sym (answered-number file ∙ read-number file) ∙ z)
+after-16 : (file : List ℕ) → readOf file .number ≡ 17 → (noSheet file ≡ false) × (not (eqb (faultIn file) 0) ≡ true)
+after-16 file z =
+    let s = sheetIn file in
+    let fault = not (eqb (faultIn file) 0) in
+    with-17 (noSheet file) fault (lengthsShort s) (ballastUnjustified s (lastTrailer file .justified)) (figuresWrong file)
+    (sym (answered-number file ∙ read-number file) ∙ z)
 
-  exactly : FaultExactly (lastTrailer file .«tonnage_length») (lastRecords file) (faultIn file)
-  unfolding faultIn
-  exactly = fault-exactly (lastTrailer file .«tonnage_length») (lastRecords file)
+faults-exactly : (file : List ℕ) → FaultExactly (lastTrailer file .«tonnage_length») (lastRecords file) (faultIn file)
+unfolding faultIn
+faults-exactly file = fault-exactly (lastTrailer file .«tonnage_length») (lastRecords file)
 
-  pub read-17-exactly : noSheet file ≡ false → Given17 file
-  unfolding refusedReading
-  read-17-exactly ends-in-sheet =
-      by-test (eqb (faultIn file) 0)
-      (λ t.
-      let z = eqb-true _ 0 t in
-      let never : readOf file .number ≡ 17 → ⊥ = λ e. eqb-false _ 0 (not-true _ (after-16 e .1)) z in
-      record {
-        with-position = λ p. (
-          λ given. absurd (never (given .0)),
-          λ a. absurd (omega (arith, z, a .at-least-1, exactly .first-exactly p (a .at-least-1) .1 a)),
-        );
-        not-given = (λ e. exactly .none-exactly .0 z, λ none. never);
-      })
-      (λ f.
-      let some = eqb-false _ 0 f in
-      let reading = read-17 file ends-in-sheet some in
-      let number : readOf file .number ≡ 17 = sym (ap (λ (r : Reading). r .number) reading) in
-      let position : faultIn file ≡ readOf file .position = ap (λ (r : Reading). r .position) reading in
-      record {
-        with-position = λ p. (
-          λ given. exactly .first-exactly p (omega (arith, some)) .0 (position ∙ given .1),
-          λ a. (number, sym position ∙ exactly .first-exactly p (a .at-least-1) .1 a),
-        );
-        not-given = (λ e. absurd (e number), λ none. absurd (some (exactly .none-exactly .1 none)));
-      })
+pub read-17-exactly : (file : List ℕ) → noSheet file ≡ false → Given17 file
+unfolding refusedReading
+read-17-exactly file ends-in-sheet =
+    let exactly = faults-exactly file in
+    by-test (eqb (faultIn file) 0)
+    (λ t.
+    let z = eqb-true _ 0 t in
+    let never : readOf file .number ≡ 17 → ⊥ = λ e. eqb-false _ 0 (not-true _ (after-16 file e .1)) z in
+    record {
+      with-position = λ p. (
+        λ given. absurd (never (given .0)),
+        λ a. absurd (omega (arith, z, a .at-least-1, exactly .first-exactly p (a .at-least-1) .1 a)),
+      );
+      not-given = (λ e. exactly .none-exactly .0 z, λ none. never);
+    })
+    (λ f.
+    let some = eqb-false _ 0 f in
+    let reading = read-17 file ends-in-sheet some in
+    let number : readOf file .number ≡ 17 = sym (ap (λ (r : Reading). r .number) reading) in
+    let position : faultIn file ≡ readOf file .position = ap (λ (r : Reading). r .position) reading in
+    record {
+      with-position = λ p. (
+        λ given. exactly .first-exactly p (omega (arith, some)) .0 (position ∙ given .1),
+        λ a. (number, sym position ∙ exactly .first-exactly p (a .at-least-1) .1 a),
+      );
+      not-given = (λ e. absurd (e number), λ none. absurd (some (exactly .none-exactly .1 none)));
+    })
 
 -- ---- "changes neither sheet nor buffer"
 
