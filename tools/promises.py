@@ -18,18 +18,20 @@ THEOREM = Path('crates/demands/proofs/NoSecondAnswer.antt')
 ROWS = '-- ---- the rows\n'  # what follows this line is as this program prints it
 USES = re.compile(r'(?:^use Rattle·\w+\.proofs as \w+\n)+', re.M)
 
-EXPORTED = re.compile(r'^pub use (\w+)::(\w+);', re.M)
 MODULE = re.compile(r'^pub mod (\w+);', re.M)
-TYPE = re.compile(r'^pub (?:struct|enum) (\w+)', re.M)
+EXPORTED = re.compile(r'^pub use (\w+)::(\w+);', re.M)
+TYPE = re.compile(r'^(?:pub )?(?:struct|enum) (\w+)', re.M)
 IMPL = re.compile(r'^impl (\w+) \{$.*?^\}$', re.M | re.S)
-HEAD = re.compile(r'^[ \t]*pub[ \t]+(?:extern[ \t]+"C"[ \t]+)?fn[ \t]+(\w+)', re.M)
+HEAD = re.compile(r'^[ \t]*pub (?:extern "C" )?fn (\w+)\(', re.M)
+PARAMETER = re.compile(r'(?:^|,)\s*(?:mut )?(self\b|\w+\s*:[^,]*)')
 LENT = re.compile(r"&(?:'\w+ )?mut ")
-ANSWER = re.compile(r'\s*->\s*(&?)')
+PART = re.compile(r'\s*->\s*&')
 
 
 @dataclass
 class Function:
-    """A public function: where the check keeps its contract, whether each parameter is lent to change, whether it answers a part of a slice."""
+    """A public function: where the check keeps its contract, which parameters are lent to change, and whether it answers a part
+    of a slice."""
     crate: str
     path: str
     lent: list[bool]
@@ -40,10 +42,9 @@ class Function:
         return f'{self.crate}-{own}'.replace('_', '-')
 
     def row(self) -> str:
-        """The statement and its proof, which `rt fmt` leaves as they are."""
+        """The statement and its proof, as `rt fmt` leaves them."""
         contract = f'{self.crate}.{self.path}'
-        says = 'OneBy' if self.part else 'One'
-        view = ' (λ lives. now)' if self.part else ''
+        says, view = ('OneBy', ' (λ lives. now)') if self.part else ('One', '')
         return (f'pub {self.name()} :\n    {says} {contract}.ended {contract}.Reads.Asked {contract}.Reads.Learnt{view}\n'
                 f'{self.name()} _ ={self.proof()}\n')
 
@@ -58,39 +59,32 @@ class Function:
 
 
 def closing(text: str, at: int) -> int:
-    """The place behind the bracket that closes the one at `at`."""
-    depth = 0
-    while True:
+    """The place behind the bracket that closes the one before `at`."""
+    depth = 1
+    while depth:
         depth += {'(': 1, ')': -1}.get(text[at], 0)
         at += 1
-        if depth == 0:
-            return at
+    return at
 
 
 def public_functions(crate: str) -> Iterator[Function]:
-    """The public functions of a library, by its sources."""
+    """The public functions of a library, as its sources have them: in a public module, or handed on by `pub use`; a method with its type."""
     source = Path('crates', crate, 'src')
     texts = {path.stem: re.sub(r'//[^\n]*', '', path.read_text()) for path in sorted(source.glob('*.rt'))}
     modules = set(MODULE.findall(texts['lib']))
-    exported = {name: module for module, name in EXPORTED.findall(texts['lib'])}
+    exported = {(module, name) for module, name in EXPORTED.findall(texts['lib'])}
     homes = {name: module for module, text in texts.items() for name in TYPE.findall(text)}
     for module, text in texts.items():
         methods = [(block.start(), block.end(), block[1]) for block in IMPL.finditer(text)]
         for head in HEAD.finditer(text):
             of = next((name for start, end, name in methods if start < head.start() < end), None)
-            if of:
-                path = f'{homes[of]}.{of}.{head[1]}'
-            elif module == 'lib' or exported.get(head[1]) == module:
-                path = head[1]
-            elif module in modules:
-                path = f'{module}.{head[1]}'
-            else:
-                sys.exit(f'{source}/{module}.rt: {head[1]} is public, and its module is not')
-            start = text.index('(', head.end())
-            end = closing(text, start)
-            parameters = re.findall(r'(?:^|,)\s*(?:mut\s+)?(self|\w+\s*:[^,]*)', text[start + 1:end - 1])
-            answer = ANSWER.match(text, end)
-            yield Function(crate, path, [bool(LENT.search(each)) for each in parameters], bool(answer and answer[1]))
+            home, item = (homes[of], of) if of else (module, head[1])
+            if home != 'lib' and home not in modules and (home, item) not in exported:
+                sys.exit(f'{source}/{module}.rt: {head[1]} is public, and neither its module nor a `pub use` is')
+            path = f'{home}.{of}.{head[1]}' if of else f'{home}.{head[1]}' if home in modules else head[1]
+            end = closing(text, head.end())
+            lent = [bool(LENT.search(each)) for each in PARAMETER.findall(text[head.end():end - 1])]
+            yield Function(crate, path, lent, bool(PART.match(text, end)))
 
 
 def libraries() -> list[str]:
@@ -101,9 +95,9 @@ def libraries() -> list[str]:
 
 def theorem(text: str) -> str:
     """The theorem's file as it is to be."""
-    functions = {crate: list(public_functions(crate)) for crate in libraries()}
-    uses = ''.join(f'use Rattle.{crate}.proofs as {crate}\n' for crate in sorted(functions) if functions[crate])
-    rows = [f'-- {crate}\n' + '\n'.join(f.row() for f in functions[crate]) for crate in functions if functions[crate]]
+    functions = {crate: found for crate in libraries() if (found := list(public_functions(crate)))}
+    uses = ''.join(f'use Rattle.{crate}.proofs as {crate}\n' for crate in sorted(functions))
+    rows = [f'-- {crate}\n' + '\n'.join(each.row() for each in functions[crate]) for crate in functions]
     return USES.sub(uses, text.partition(ROWS)[0]) + ROWS + '\n' + '\n'.join(rows)
 
 
@@ -115,7 +109,7 @@ def main() -> int:
     elif '--write' in sys.argv:
         THEOREM.write_text(due)
     elif text != due:
-        print(f'{THEOREM}: rows not as the code has them; python3 tools/promises.py --write mends it')
+        print(f'{THEOREM}: not as the code has it; python3 tools/promises.py --write mends it')
         print('\n'.join(unified_diff(text.splitlines(), due.splitlines(), 'as it is', 'as it is to be', n=0, lineterm='')))
         return 1
     return 0

@@ -5,7 +5,6 @@ pub mod Lists
 pub mod Walk
 pub mod Entry
 pub mod Valid
-pub mod Changes
 pub mod Withdraw
 pub mod Mark
 pub mod Places

@@ -2,7 +2,7 @@
 -- are plain; then it leaves a valid sheet. Stands on Valid, Changes.
 use Prim.Native.Nat.{ℕ, zero, suc}
 use mathlib.Core.Path.{_≡_, refl, sym, ap, _∙_, subst}
-use mathlib.Core.Bool.{Bool, true, false, not, _&&_}
+use mathlib.Core.Bool.{true, false, not, _&&_}
 use mathlib.Core.List.{List, [], _∷_, _++_, map, map-append, List·Memᴰ·head, Memᴰ·append-right, Memᴰ·of-map}
 use mathlib.Core.Option.{Option, none, some}
 use native.Mathlib.Omega.{arith}
@@ -15,7 +15,7 @@ use Rattle.spaces.specs.declared.sums.Amount.the-variants.{Inside, Lengths}
 use Rattle.spaces.specs.Space.{isRoom, isPlain, mayTake}
 use Rattle.spaces.specs.Row.{find, stands, amountOf, sumBy}
 use Rattle.spaces.specs.Enclosure.{enclosing, upward, above, allPlain, below}
-use Rattle.spaces.specs.Rules.{cannotTake, plainAbove, markedTwice, markNumber}
+use Rattle.spaces.specs.Rules.{cannotTake, plainAbove, markedTwice, markTests, markNumber}
 use Rattle.spaces.specs.Valid.{ValidFrom, done, next, Valid}
 use Rattle.spaces.proofs.laws.Cases.{by-test, by-option, not-both}
 use Rattle.spaces.proofs.laws.Enclosure.{upward-next, upward-none}
@@ -25,7 +25,7 @@ use Rattle.spaces_laws.proofs.Lists.{_∈_, unfound-absent, some-of}
 use Rattle.spaces_laws.proofs.Walk.{upward-stands, plain-of-all, all-plain-of, below-exactly}
 use Rattle.spaces_laws.proofs.Entry.{Accepted, facts-of-entry, entry-of-facts}
 use Rattle.spaces_laws.proofs.Valid.{Sound, above-kept, same-by-id, sound-empty, sound-entered, valid-is-sound}
-use Rattle.spaces_laws.proofs.Changes.{marking, marked}
+use Rattle.spaces_laws.specs.Changes.{marking, marked}
 
 -- what the numbers 5, 6 and 8 leave of a mark
 pub record Markable (xs : List Space) (id standing : ℕ) : Type 0 where
@@ -34,10 +34,6 @@ pub record Markable (xs : List Space) (id standing : ℕ) : Type 0 where
   pub may-take : mayTake (it .kind) standing ≡ true
   pub plain-above : eqb standing 0 ≡ false → allPlain (above xs it) ≡ true
   pub plain-below : eqb standing 0 ≡ false → allPlain (below id xs) ≡ true
-
--- the tests of `markNumber`
-abbrev markTests : List Space → ℕ → ℕ → List (Bool × ℕ)
-markTests xs id standing = (not (stands id xs), 5) ∷ (cannotTake (find id xs) standing, 6) ∷ (markedTwice xs id standing, 8) ∷ []
 
 plain-both : (xs : List Space) (id standing : ℕ) → markedTwice xs id standing ≡ false → eqb standing 0 ≡ false
     → (plainAbove xs (find id xs) ≡ true) × (allPlain (below id xs) ≡ true)

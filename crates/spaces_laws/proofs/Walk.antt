@@ -16,6 +16,7 @@ use Rattle.spaces.specs.Row.{find}
 use Rattle.spaces.specs.Enclosure.{enclosing, upward, above, level, allPlain, among, belowOf, below}
 use Rattle.spaces.proofs.laws.Cases.{by-test, by-option, not-both, none-not-some}
 use Rattle.spaces.proofs.laws.Enclosure.{upward-next, upward-none}
+pub use Rattle.spaces_laws.specs.Above.{Above, directly, further}
 use Rattle.spaces_laws.proofs.Tests.{and-holds, and-holds-of}
 use Rattle.spaces_laws.proofs.Lists.{_∈_, find-before, found-stands}
 
@@ -73,11 +74,6 @@ upward-ended (suc left) xs x h =
     ∙ sym (upward-next left xs x e))
 
 -- ---- anywhere above
-
--- `Above xs y z`: z encloses y, or is above the space that encloses y
-pub data Above (xs : List Space) : Space → Space → Type 0 where
-  directly : {y z : Space} → enclosing xs y ≡ some z → Above xs y z
-  further : {y t z : Space} → enclosing xs y ≡ some t → Above xs t z → Above xs y z
 
 above-of-walked : (left : ℕ) (xs : List Space) (y z : Space) → z ∈ upward left xs y → Above xs y z
 above-of-walked zero xs y z m = absurd (List·Memᴰ·not-nil m)

@@ -2,7 +2,7 @@
 -- Changes.
 use Prim.Native.Nat.{ℕ, zero, suc, _≤_}
 use mathlib.Core.Path.{_≡_, refl, sym, ap, _∙_}
-use mathlib.Core.Bool.{Bool, true, false, not}
+use mathlib.Core.Bool.{true, false, not}
 use mathlib.Core.List.{List, [], _∷_, _++_, append-nil, List·Memᴰ·head, List·Memᴰ·tail, List·Memᴰ·not-nil}
 use mathlib.Core.Option.{some}
 use native.Mathlib.Nat.{le-of-eq}
@@ -15,7 +15,7 @@ use Rattle.spaces.specs.declared.sums.Amount.the-variants.{Inside, Rooms, Lengt
 use Rattle.spaces.specs.Space.{isRoom}
 use Rattle.spaces.specs.Row.{find, stands, amountOf, sumBy, sumOf}
 use Rattle.spaces.specs.Enclosure.{above, enclosing, upward}
-use Rattle.spaces.specs.Rules.{enclosesRoom, withdrawNumber}
+use Rattle.spaces.specs.Rules.{enclosesRoom, withdrawTests, withdrawNumber}
 use Rattle.spaces.specs.Valid.{ValidFrom, done, next, Valid}
 use Rattle.spaces.proofs.laws.Cases.{by-test, by-option}
 use Rattle.spaces.proofs.laws.Enclosure.{upward-next, upward-none}
@@ -23,7 +23,7 @@ use Rattle.spaces_laws.proofs.Refusals.{none-applies, accepted-of-none}
 use Rattle.spaces_laws.proofs.Lists.{_∈_, all-snoc, find-further, some-of, one-within-sum, sum-of-none, inside-adds, outside-adds-none}
 use Rattle.spaces_laws.proofs.Walk.{enclosing-of-other, enclosing-of-room, enclosing-stands}
 use Rattle.spaces_laws.proofs.Entry.{Accepted, facts-of-entry, entry-of-facts}
-use Rattle.spaces_laws.proofs.Changes.{without}
+use Rattle.spaces_laws.specs.Changes.{without}
 
 -- a space is no room directly inside the one with an id
 abbrev pub Outside : ℕ → Space → Type 0
@@ -34,10 +34,6 @@ pub record Withdrawable (xs : List Space) (id : ℕ) : Type 0 where
   pub it : Space
   pub it-stands : find id xs ≡ some it
   pub no-room-inside : (y : Space) → y ∈ xs → Outside id y
-
--- the tests of `withdrawNumber`
-abbrev withdrawTests : List Space → ℕ → List (Bool × ℕ)
-withdrawTests xs id = (not (stands id xs), 5) ∷ (enclosesRoom xs id, 11) ∷ []
 
 pub facts-of-withdrawal : (xs : List Space) (id : ℕ) → withdrawNumber xs id ≡ 0 → Withdrawable xs id
 unfolding withdrawNumber

@@ -1,0 +1,4 @@
+-- What the theorems of proofs/ say of spaces in words of their own, beside the definitions that compute. No code cites these. Read these
+-- files from top to bottom.
+pub mod Above
+pub mod Changes
