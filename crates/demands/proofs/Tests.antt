@@ -10,7 +10,7 @@ use lib.Dec.{eqb}
 use Rattle.measure.specs.Refusals.{firstOf, Refuse, here, later, Accept}
 use Rattle.measure_laws.proofs.Refusals.{refused-with, accepted, judged}
 use Rattle.spaces.proofs.laws.Cases.{by-test}
-use Rattle.spaces_laws.proofs.Refusals.{Numbered}
+use Rattle.spaces_laws.proofs.Refusals.{Numbered, none-applies}
 use Rattle.demands.specs.Tests.{FirstGiven, Applies, first, further, LowestGiven}
 
 -- the numbers of the tests ascend, each over the one before it
@@ -20,10 +20,6 @@ AscendFrom below (test ∷ tests) = (below < test .1) × AscendFrom (test .1) te
 
 -- ---- in their order
 
-numbered-refusal : {tests : List (Bool × ℕ)} {n : ℕ} → Numbered tests → Refuse tests n → 0 < n
-numbered-refusal numbered here = numbered .0
-numbered-refusal numbered (later r) = numbered-refusal (numbered .1) r
-
 pub first-given : (tests : List (Bool × ℕ)) → Numbered tests → FirstGiven tests (firstOf tests)
 first-given tests numbered =
     record {
@@ -31,10 +27,7 @@ first-given tests numbered =
         λ e. ⊎-elim (λ (a : Accept tests). absurd (omega (arith, accepted a))) (λ (r : Refuse tests (firstOf tests)). rw e at r) (judged tests),
         λ r. refused-with r,
       );
-      accepted-exactly = (
-        λ e. ⊎-elim (λ (a : Accept tests). a) (λ (r : Refuse tests (firstOf tests)). absurd (omega (arith, numbered-refusal numbered r))) (judged tests),
-        λ a. accepted a,
-      );
+      accepted-exactly = (none-applies tests numbered, λ a. accepted a);
     }
 
 -- ---- the lowest

@@ -8,6 +8,8 @@ use native.Mathlib.Omega.{arith}
 use borrow.Author.Tests.{ltb-false, leb-false, le-ltb, lt-leb, not-true, not-false}
 use lib.Dec.{ltb}
 use lib.ListN.{length}
+use Rattle.measure.specs.Refusals.{none as no-more}
+use Rattle.measure_laws.proofs.Refusals.{accepted}
 use Rattle.spaces.specs.declared.space.Space.{Space}
 use Rattle.spaces.specs.declared.sums.Amount.the-variants.{Inside, Lengths}
 use Rattle.spaces.specs.Space.{isUnderDeck, isHatchway, isRoom, isPlain, mayTake}
@@ -16,7 +18,7 @@ use Rattle.spaces.specs.Enclosure.{enclosing, above, level, allPlain}
 use Rattle.spaces.specs.Rules.{idRefused, unhoused, inHatchway, misplaced, tooDeep, offTwice, passesEnclosing, overfull, noPlace, entryTests, entryNumber}
 use Rattle.spaces.proofs.laws.Cases.{by-test, or-fails}
 use Rattle.spaces_laws.proofs.Tests.{or-fails-of, and-fails, and-fails-of}
-use Rattle.spaces_laws.proofs.Refusals.{none-applies, accepted-of-none}
+use Rattle.spaces_laws.proofs.Refusals.{none-applies, apart, together}
 use Rattle.spaces_laws.proofs.Lists.{some-of, none-of}
 use Rattle.spaces_laws.proofs.Walk.{enclosing-of-other, enclosing-of-room}
 
@@ -68,7 +70,13 @@ module _ (xs : List Space) (x : Space) where
 pub facts-of-entry : (L : ℕ) (xs : List Space) (x : Space) → entryNumber L xs x ≡ 0 → Accepted L xs x
 unfolding entryNumber
 facts-of-entry L xs x e =
-    let (id-free, (housed, (placed, (shallow, (once, (room-left, (place-left, _))))))) = none-applies (entryTests L xs x) (omega arith) e in
+    let (id-free, from-5) = apart (none-applies (entryTests L xs x) (omega arith) e) in
+    let (housed, from-6) = apart from-5 in
+    let (placed, from-7) = apart from-6 in
+    let (shallow, from-8) = apart from-7 in
+    let (once, from-9) = apart from-8 in
+    let (room-left, from-10) = apart from-9 in
+    let (place-left, _) = apart from-10 in
     let ids = or-fails _ _ id-free in
     let range = or-fails _ _ (ids .0) in
     let takes = or-fails _ _ placed in
@@ -98,4 +106,5 @@ entry-of-facts L xs x a =
     let lengths : (isUnderDeck x && ltb L (sumOf Lengths xs + x .length)) ≡ false = and-fails-of _ _ (λ u. le-ltb _ _ (a .lengths-fit u)) in
     let fits : overfull L xs x ≡ false = or-fails-of _ _ (not-passed xs x (a .enclosed) (a .rooms-fit)) lengths in
     let place : noPlace xs ≡ false = lt-leb _ _ (a .place-left) in
-    accepted-of-none (entryTests L xs x) (id-free, (housed xs x (a .enclosed), (placed, (shallow, (once, (fits, (place, tt)))))))
+    let from-7 = together shallow (together once (together fits (together place no-more))) in
+    accepted (together id-free (together (housed xs x (a .enclosed)) (together placed from-7)))

@@ -10,6 +10,8 @@ use borrow.Author.Tests.{eqb-true, eqb-false, eq-eqb, ne-eqb, not-true, not-fals
 use lib.Dec.{eqb}
 use lib.ListN.{length, length-map}
 use lib.Seq.{append-snoc}
+use Rattle.measure.specs.Refusals.{none as no-more}
+use Rattle.measure_laws.proofs.Refusals.{accepted}
 use Rattle.spaces.specs.declared.space.Space.{Space}
 use Rattle.spaces.specs.declared.sums.Amount.the-variants.{Inside, Lengths}
 use Rattle.spaces.specs.Space.{isRoom, isPlain, mayTake}
@@ -20,7 +22,7 @@ use Rattle.spaces.specs.Valid.{ValidFrom, done, next, Valid}
 use Rattle.spaces.proofs.laws.Cases.{by-test, by-option, not-both}
 use Rattle.spaces.proofs.laws.Enclosure.{upward-next, upward-none}
 use Rattle.spaces_laws.proofs.Tests.{and-fails, and-fails-of, and-holds}
-use Rattle.spaces_laws.proofs.Refusals.{none-applies, accepted-of-none}
+use Rattle.spaces_laws.proofs.Refusals.{none-applies, apart, together}
 use Rattle.spaces_laws.proofs.Lists.{_∈_, unfound-absent, some-of}
 use Rattle.spaces_laws.proofs.Walk.{upward-stands, plain-of-all, all-plain-of, below-exactly}
 use Rattle.spaces_laws.proofs.Entry.{Accepted, facts-of-entry, entry-of-facts}
@@ -42,7 +44,9 @@ plain-both xs id standing e p = and-holds _ _ (not-false _ (and-fails _ _ e (ap 
 pub facts-of-mark : (xs : List Space) (id standing : ℕ) → markNumber xs id standing ≡ 0 → Markable xs id standing
 unfolding markNumber
 facts-of-mark xs id standing e =
-    let (stood, (takes, (once, _))) = none-applies (markTests xs id standing) (omega arith) e in
+    let (stood, rest) = apart (none-applies (markTests xs id standing) (omega arith) e) in
+    let (takes, last) = apart rest in
+    let (once, _) = apart last in
     let s = some-of (find id xs) (not-false _ stood) in
     record {
       it = s .0;
@@ -58,7 +62,7 @@ mark-of-facts xs id standing m =
     let stood : not (stands id xs) ≡ false = rw (m .it-stands) in
     let takes : cannotTake (find id xs) standing ≡ false = rw (m .it-stands) (ap not (m .may-take)) in
     let once : markedTwice xs id standing ≡ false = and-fails-of _ _ (λ p. ap not (plain (not-true _ p))) in
-    accepted-of-none (markTests xs id standing) (stood, (takes, (once, tt)))
+    accepted (together stood (together takes (together once no-more)))
   where
     plain : eqb standing 0 ≡ false → (plainAbove xs (find id xs) && allPlain (below id xs)) ≡ true
     plain p = rw (m .it-stands, m .plain-above p) (m .plain-below p)

@@ -10,6 +10,8 @@ use native.Mathlib.Omega.{arith}
 use borrow.Author.Tests.{ltb-false, le-ltb, eqb-true, eqb-false, not-false}
 use lib.Dec.{eqb}
 use lib.ListN.{length}
+use Rattle.measure.specs.Refusals.{none as no-more}
+use Rattle.measure_laws.proofs.Refusals.{accepted}
 use Rattle.spaces.specs.declared.space.Space.{Space}
 use Rattle.spaces.specs.declared.sums.Amount.the-variants.{Inside, Rooms, Lengths}
 use Rattle.spaces.specs.Space.{isRoom}
@@ -19,7 +21,7 @@ use Rattle.spaces.specs.Rules.{enclosesRoom, withdrawTests, withdrawNumber}
 use Rattle.spaces.specs.Valid.{ValidFrom, done, next, Valid}
 use Rattle.spaces.proofs.laws.Cases.{by-test, by-option}
 use Rattle.spaces.proofs.laws.Enclosure.{upward-next, upward-none}
-use Rattle.spaces_laws.proofs.Refusals.{none-applies, accepted-of-none}
+use Rattle.spaces_laws.proofs.Refusals.{none-applies, apart, together}
 use Rattle.spaces_laws.proofs.Lists.{_∈_, all-snoc, find-further, some-of, one-within-sum, sum-of-none, inside-adds, outside-adds-none}
 use Rattle.spaces_laws.proofs.Walk.{enclosing-of-other, enclosing-of-room, enclosing-stands}
 use Rattle.spaces_laws.proofs.Entry.{Accepted, facts-of-entry, entry-of-facts}
@@ -38,7 +40,8 @@ pub record Withdrawable (xs : List Space) (id : ℕ) : Type 0 where
 pub facts-of-withdrawal : (xs : List Space) (id : ℕ) → withdrawNumber xs id ≡ 0 → Withdrawable xs id
 unfolding withdrawNumber
 facts-of-withdrawal xs id e =
-    let (stood, (empty, _)) = none-applies (withdrawTests xs id) (omega arith) e in
+    let (stood, rest) = apart (none-applies (withdrawTests xs id) (omega arith) e) in
+    let (empty, _) = apart rest in
     let s = some-of (find id xs) (not-false _ stood) in
     let no-rooms : sumOf (Rooms id) xs ≤ 0 = ltb-false _ _ empty in
     record {
@@ -53,7 +56,7 @@ withdrawal-of-facts xs id w =
     let no-rooms : sumOf (Rooms id) xs ≡ 0 = sum-of-none (amountOf (Rooms id)) xs (λ y m. outside-adds-none id 1 y (w .no-room-inside y m)) in
     let stood : not (stands id xs) ≡ false = rw (w .it-stands) in
     let empty : enclosesRoom xs id ≡ false = le-ltb _ _ (le-of-eq no-rooms) in
-    accepted-of-none (withdrawTests xs id) (stood, (empty, tt))
+    accepted (together stood (together empty no-more))
 
 -- ---- the spaces without one
 
