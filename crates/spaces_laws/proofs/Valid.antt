@@ -41,7 +41,7 @@ pub record Sound (L : ℕ) (xs : List Space) : Type 0 where
   pub lengths-fit : sumOf Lengths xs ≤ L
   pub at-most-200 : length xs ≤ 200
 
-closed : {xs : List Space} {y : Space} → (isRoom y ≡ true → Enclosed xs y) → Closed xs y
+pub closed : {xs : List Space} {y : Space} → (isRoom y ≡ true → Enclosed xs y) → Closed xs y
 closed h r = (h r .home, h r .home-stands)
 
 enclosed-append : (xs ys : List Space) (y : Space) → Enclosed xs y → Enclosed (xs ++ ys) y
