@@ -2,7 +2,7 @@
 -- nearest hundredth of a ton, and gross and net follow from them. A sheet written and read back has the same spaces in the same order;
 -- the sheet read from a file, written again with its mark, gives the bytes it was read from."
 -- Stands on Reached. t is the tonnage length and l the space's length; parts, multipliers and areas are defined in measure/specs.
-use Prim.Native.Nat.{ℕ, _+_, _-_, _*_, _≤_, _<_}
+use Prim.Native.Nat.{ℕ, _+_, _*_, _≤_, _<_}
 use mathlib.Core.Path.{_≡_, refl, sym, ap, _∙_}
 use mathlib.Core.List.{List, [], _∷_, _++_}
 use native.Mathlib.Omega.{arith}
@@ -15,7 +15,6 @@ use Rattle.measure.specs.Thirds.{thirdOfLength, thirdOfDepth}
 use Rattle.measure.specs.Multipliers.{weighted, total}
 use Rattle.measure.specs.Volumes.{tons, areas, underDeckVolume, levelVolume, boxVolume}
 use Rattle.measure.specs.Offsets.{middleOf, volume, tonnage, measured}
-use Rattle.measure.specs.Allowances.{hatchwayAllowance, hatchwayExcess}
 use Rattle.measure.specs.declared.units.Hundredths.{Hundredths}
 use Rattle.measure.specs.declared.kinds.Kind.{Kind}
 use Rattle.measure.specs.declared.kinds.Kind.the-variants.{UnderDeck, BetweenDeck, Superstructure, Hatchway, Room, NoKind}
@@ -23,10 +22,9 @@ use Rattle.measure_laws.proofs.Rounding.{nearest-is}
 use Rattle.measure_laws.proofs.Parts.{nearest-parts-is}
 use Rattle.measure_laws.proofs.Offsets.{measured-exactly}
 use Rattle.spaces.specs.Row.{sumOf}
-use Rattle.spaces.specs.Gross.{exempt, grossOver, gross}
-use Rattle.spaces.specs.declared.sums.Amount.the-variants.{Hull, Deducted}
+use Rattle.spaces.specs.declared.sums.Amount.the-variants.{Deducted}
 use Rattle.spaces_laws.proofs.Valid.{valid-is-sound}
-use Rattle.spaces_laws.proofs.Report.{report-exact}
+use Rattle.spaces_laws.proofs.Report.{report-exact, gross-exactly}
 use Rattle.sheet.specs.Sheet.{standing}
 use Rattle.sheet.specs.Changes.{fitted, noted}
 use Rattle.sheet.specs.Calls.{entryOf, entered, reported}
@@ -147,18 +145,13 @@ entered-last {s} r e heights breadths z =
 
 pub gross-and-net : {s : Sheet} → Reached s → (justified : ℕ) → reported s justified .number ≡ 0
     → GrossAndNet (standing s) (reported s justified .gross) (reported s justified .net)
-unfolding gross grossOver hatchwayExcess hatchwayAllowance
 gross-and-net {s} r justified z =
-    let xs = standing s in
-    let exact = report-exact (reached-resumable r .resumable .valid) in
+    let v = reached-resumable r .resumable .valid in
     let told = given s justified (reported s justified) refl z in
     record {
-      g = sumOf Hull xs - exempt xs;
-      allowance = hatchwayAllowance (sumOf Hull xs - exempt xs);
-      whole-less-exempt = exact .whole-less-exempt;
-      allowance-is = nearest-is (sumOf Hull xs - exempt xs) 200 (omega arith);
-      gross-is = told .gross-is;
-      net-is = ap (λ (n : ℕ). n + sumOf Deducted xs) (told .net-is) ∙ exact .gross-less-deducted ∙ sym (told .gross-is);
+      gross-is = gross-exactly v (reported s justified .gross) .0 (sym (told .gross-is));
+      net-is =
+          ap (λ (n : ℕ). n + sumOf Deducted (standing s)) (told .net-is) ∙ report-exact v .gross-less-deducted ∙ sym (told .gross-is);
     }
 
 -- ---- both round trips

@@ -1,12 +1,12 @@
 -- What an accepted entry leaves on a sheet, and how gross and net follow from the tonnages.
-use Prim.Native.Nat.{ℕ, _+_, _-_}
+use Prim.Native.Nat.{ℕ, _+_}
 use mathlib.Core.Path.{_≡_}
 use mathlib.Core.List.{List, [], _∷_, _++_}
-use Rattle.measure.specs.Rounding.{Nearest}
 use Rattle.spaces.specs.Row.{sumOf}
 use Rattle.spaces.specs.Gross.{exempt}
 use Rattle.spaces.specs.declared.space.Space.{Space}
-use Rattle.spaces.specs.declared.sums.Amount.the-variants.{Hull, Hatchways, Deducted}
+use Rattle.spaces.specs.declared.sums.Amount.the-variants.{Deducted}
+use Rattle.spaces_laws.specs.Gross.{GrossLess}
 use Rattle.sheet.specs.Sheet.{standing}
 use Rattle.sheet.specs.Calls.{measuredFor, entered}
 use Rattle.sheet.specs.declared.sheet.Sheet.{Sheet}
@@ -19,15 +19,9 @@ pub record EnteredLast (s : Sheet) (e : Entry) (heights breadths : List ℕ) : T
   pub stands-last : standing (entered s e heights breadths .sheet) ≡ standing s ++ (spaceOf (s .length) e heights breadths ∷ [])
   pub with-its-tonnage : spaceOf (s .length) e heights breadths .tonnage ≡ measuredFor s e heights breadths .tonnage
 
--- from the recorded tonnages of the spaces xs, with nothing cut off but the excess
+-- "gross and net follow from them": from the recorded tonnages of the spaces xs, with nothing cut off but the excess
 pub record GrossAndNet (xs : List Space) (gross net : ℕ) : Type 0 where
-  pub g : ℕ
-  pub allowance : ℕ
-  -- "Let G = T − E."
-  pub whole-less-exempt : g + exempt xs ≡ sumOf Hull xs
-  -- "The hatchway allowance is G/200, nearest, taken without the hatchways"
-  pub allowance-is : Nearest g 200 allowance
-  -- "the excess is the sum of all H less the allowance, or 0. Gross = G + excess"
-  pub gross-is : gross ≡ g + (sumOf Hatchways xs - allowance)
+  -- "Let G = T − E. .. Gross = G + excess", part by part
+  pub gross-is : GrossLess (exempt xs) xs gross
   -- "net = gross − D"
   pub net-is : net + sumOf Deducted xs ≡ gross

@@ -21,9 +21,10 @@ use Rattle.spaces.specs.Rules.{cannotTake, plainAbove, markedTwice, markTests, 
 use Rattle.spaces.specs.Valid.{ValidFrom, done, next, Valid}
 use Rattle.spaces.proofs.laws.Cases.{by-test, by-option, not-both}
 use Rattle.spaces.proofs.laws.Enclosure.{upward-next, upward-none}
+use Rattle.spaces_laws.specs.Above.{_∈_}
 use Rattle.spaces_laws.proofs.Tests.{and-fails, and-fails-of, and-holds}
 use Rattle.spaces_laws.proofs.Refusals.{none-applies, apart, together}
-use Rattle.spaces_laws.proofs.Lists.{_∈_, unfound-absent, some-of}
+use Rattle.spaces_laws.proofs.Lists.{unfound-absent, some-of}
 use Rattle.spaces_laws.proofs.Walk.{upward-stands, plain-of-all, all-plain-of, below-exactly}
 use Rattle.spaces_laws.proofs.Entry.{Accepted, facts-of-entry, entry-of-facts}
 use Rattle.spaces_laws.proofs.Valid.{Sound, above-kept, same-by-id, sound-empty, sound-entered, valid-is-sound}

@@ -18,8 +18,9 @@ use Rattle.spaces.specs.Rules.{entryNumber}
 use Rattle.spaces.specs.Valid.{ValidFrom, done, next, Valid}
 use Rattle.spaces.proofs.laws.Cases.{by-test, none-not-some, some-same}
 use Rattle.spaces.proofs.laws.Row.{sum-append}
+use Rattle.spaces_laws.specs.Above.{_∈_}
 use Rattle.spaces_laws.proofs.Tests.{and-holds}
-use Rattle.spaces_laws.proofs.Lists.{_∈_, all-snoc, find-here, find-before, find-behind, sum-of-none, outside-adds-none}
+use Rattle.spaces_laws.proofs.Lists.{all-snoc, find-here, find-before, find-behind, sum-of-none, outside-adds-none}
 use Rattle.spaces_laws.proofs.Walk.{Closed, upward-append}
 use Rattle.spaces_laws.proofs.Entry.{Enclosed, Accepted, facts-of-entry}
 
@@ -41,7 +42,7 @@ pub record Sound (L : ℕ) (xs : List Space) : Type 0 where
   pub lengths-fit : sumOf Lengths xs ≤ L
   pub at-most-200 : length xs ≤ 200
 
-closed : {xs : List Space} {y : Space} → (isRoom y ≡ true → Enclosed xs y) → Closed xs y
+pub closed : {xs : List Space} {y : Space} → (isRoom y ≡ true → Enclosed xs y) → Closed xs y
 closed h r = (h r .home, h r .home-stands)
 
 enclosed-append : (xs ys : List Space) (y : Space) → Enclosed xs y → Enclosed (xs ++ ys) y

@@ -21,8 +21,9 @@ use Rattle.spaces.specs.Rules.{enclosesRoom, withdrawTests, withdrawNumber}
 use Rattle.spaces.specs.Valid.{ValidFrom, done, next, Valid}
 use Rattle.spaces.proofs.laws.Cases.{by-test, by-option}
 use Rattle.spaces.proofs.laws.Enclosure.{upward-next, upward-none}
+use Rattle.spaces_laws.specs.Above.{_∈_}
 use Rattle.spaces_laws.proofs.Refusals.{none-applies, apart, together}
-use Rattle.spaces_laws.proofs.Lists.{_∈_, all-snoc, find-further, some-of, one-within-sum, sum-of-none, inside-adds, outside-adds-none}
+use Rattle.spaces_laws.proofs.Lists.{all-snoc, find-further, some-of, one-within-sum, sum-of-none, inside-adds, outside-adds-none}
 use Rattle.spaces_laws.proofs.Walk.{enclosing-of-other, enclosing-of-room, enclosing-stands}
 use Rattle.spaces_laws.proofs.Entry.{Accepted, facts-of-entry, entry-of-facts}
 use Rattle.spaces_laws.specs.Changes.{without}
