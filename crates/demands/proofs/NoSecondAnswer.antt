@@ -2,8 +2,8 @@
 -- Prove that no second answer could satisfy it": a theorem for every public function of every library, the calls for C and Rust
 -- too, about the contract that the check proved of it. What `One` and `OneBy` say is in specs/OneAnswer: whatever is given, nothing
 -- is asked of it, and two ends that the contract allows are one, in the answer and in every value left in what was lent to change.
--- Every contract says `.. ≡ definition`, so the idea of each proof is that what equals one thing is equal. tools/promises.py writes
--- the rows, and fails where a public function has none or where a row says anything else.
+-- Every contract says `.. ≡ definition`, so the idea of each proof is that two things equal to a third are equal. tools/promises.py
+-- writes the rows, and fails where a public function has none or where a row says anything else.
 use mathlib.Core.Path.{_≡_, refl, sym, ap, _∙_}
 use denote.Ref.{now}
 use Rattle.demands.specs.OneAnswer.{One, OneBy}

@@ -4,7 +4,7 @@
 --   F.ended: what it takes, what it answers, and which parameters it is lent to change (`&mut`);
 --   F.Reads.Asked: what its `requires` come to, of the values given;
 --   F.Reads.Learnt: what its `ensures` come to, of the values given, the answer, and what a parameter lent to change holds at the end.
--- Lifetimes say how long what is lent stays lent. They are given as the other values are, and no promise hangs on them.
+-- Lifetimes, which say how long what is lent stays lent, are given with the values.
 use mathlib.Core.Path.{_≡_}
 use contract.Lifetimes.{Lfts}
 use denote.Triple.Entry.{Args, Res}

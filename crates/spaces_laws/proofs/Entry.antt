@@ -1,9 +1,9 @@
 -- An entry is accepted (none of 4 to 10 applies) exactly where the facts of `Accepted` hold. Stands on Refusals, Lists, Walk.
-use Prim.Native.Nat.{ℕ, _+_, _≤_, _<_}
+use Prim.Native.Nat.{ℕ, _+_, _≤_}
 use mathlib.Core.Path.{_≡_, ap, _∙_}
 use mathlib.Core.Bool.{true, false, not, _&&_, _||_}
 use mathlib.Core.List.{List}
-use mathlib.Core.Option.{none, some}
+use mathlib.Core.Option.{some}
 use native.Mathlib.Omega.{arith}
 use borrow.Author.Tests.{ltb-false, leb-false, le-ltb, lt-leb, not-true, not-false}
 use lib.Dec.{ltb}
@@ -12,34 +12,16 @@ use Rattle.measure.specs.Refusals.{none as no-more}
 use Rattle.measure_laws.proofs.Refusals.{accepted}
 use Rattle.spaces.specs.declared.space.Space.{Space}
 use Rattle.spaces.specs.declared.sums.Amount.the-variants.{Inside, Lengths}
-use Rattle.spaces.specs.Space.{isUnderDeck, isHatchway, isRoom, isPlain, mayTake}
+use Rattle.spaces.specs.Space.{isUnderDeck, isRoom}
 use Rattle.spaces.specs.Row.{find, isSome, sumOf}
-use Rattle.spaces.specs.Enclosure.{enclosing, above, level, allPlain}
+use Rattle.spaces.specs.Enclosure.{enclosing}
 use Rattle.spaces.specs.Rules.{idRefused, unhoused, inHatchway, misplaced, tooDeep, offTwice, passesEnclosing, overfull, noPlace, entryTests, entryNumber}
 use Rattle.spaces.proofs.laws.Cases.{by-test, or-fails}
+use Rattle.spaces_laws.specs.Accepted.{Enclosed, Accepted}
 use Rattle.spaces_laws.proofs.Tests.{or-fails-of, and-fails, and-fails-of}
 use Rattle.spaces_laws.proofs.Refusals.{none-applies, apart, together}
 use Rattle.spaces_laws.proofs.Lists.{some-of, none-of}
 use Rattle.spaces_laws.proofs.Walk.{enclosing-of-other, enclosing-of-room}
-
--- a room's enclosing space: it stands, and is no hatchway
-pub record Enclosed (xs : List Space) (x : Space) : Type 0 where
-  pub home : Space
-  pub home-stands : find (x .within) xs ≡ some home
-  pub no-hatchway : isHatchway home ≡ false
-
--- what the numbers 4 to 10 leave of an entry
-pub record Accepted (L : ℕ) (xs : List Space) (x : Space) : Type 0 where
-  pub id-at-least : 1 ≤ x .id
-  pub id-at-most : x .id ≤ 9999
-  pub id-free : find (x .id) xs ≡ none
-  pub enclosed : isRoom x ≡ true → Enclosed xs x
-  pub may-take : mayTake (x .kind) (x .standing) ≡ true
-  pub level-at-most : level xs x ≤ 8
-  pub plain-above : isPlain x ≡ false → allPlain (above xs x) ≡ true
-  pub rooms-fit : (r : isRoom x ≡ true) → sumOf (Inside (x .within)) xs + x .tonnage ≤ enclosed r .home .tonnage
-  pub lengths-fit : isUnderDeck x ≡ true → sumOf Lengths xs + x .length ≤ L
-  pub place-left : length xs < 200
 
 -- the tests that look at the enclosing space
 module _ (xs : List Space) (x : Space) where

@@ -1,5 +1,5 @@
 -- A mark is accepted exactly where the id stands, its kind can take the standing and, unless the standing is plain, all above and below
--- are plain; then it leaves a valid sheet. Stands on Valid, Changes.
+-- are plain; then it leaves a valid sheet. Stands on Valid.
 use Prim.Native.Nat.{ℕ, zero, suc}
 use mathlib.Core.Path.{_≡_, refl, sym, ap, _∙_, subst}
 use mathlib.Core.Bool.{true, false, not, _&&_}
@@ -22,21 +22,15 @@ use Rattle.spaces.specs.Valid.{ValidFrom, done, next, Valid}
 use Rattle.spaces.proofs.laws.Cases.{by-test, by-option, not-both}
 use Rattle.spaces.proofs.laws.Enclosure.{upward-next, upward-none}
 use Rattle.spaces_laws.specs.Above.{_∈_}
+use Rattle.spaces_laws.specs.Accepted.{Accepted, Markable}
+use Rattle.spaces_laws.specs.Sound.{Sound}
 use Rattle.spaces_laws.proofs.Tests.{and-fails, and-fails-of, and-holds}
 use Rattle.spaces_laws.proofs.Refusals.{none-applies, apart, together}
 use Rattle.spaces_laws.proofs.Lists.{unfound-absent, some-of}
 use Rattle.spaces_laws.proofs.Walk.{upward-stands, plain-of-all, all-plain-of, below-exactly}
-use Rattle.spaces_laws.proofs.Entry.{Accepted, facts-of-entry, entry-of-facts}
-use Rattle.spaces_laws.proofs.Valid.{Sound, above-kept, same-by-id, sound-empty, sound-entered, valid-is-sound}
+use Rattle.spaces_laws.proofs.Entry.{facts-of-entry, entry-of-facts}
+use Rattle.spaces_laws.proofs.Valid.{above-kept, same-by-id, sound-empty, sound-entered, valid-is-sound}
 use Rattle.spaces_laws.specs.Changes.{marking, marked}
-
--- what the numbers 5, 6 and 8 leave of a mark
-pub record Markable (xs : List Space) (id standing : ℕ) : Type 0 where
-  pub it : Space
-  pub it-stands : find id xs ≡ some it
-  pub may-take : mayTake (it .kind) standing ≡ true
-  pub plain-above : eqb standing 0 ≡ false → allPlain (above xs it) ≡ true
-  pub plain-below : eqb standing 0 ≡ false → allPlain (below id xs) ≡ true
 
 plain-both : (xs : List Space) (id standing : ℕ) → markedTwice xs id standing ≡ false → eqb standing 0 ≡ false
     → (plainAbove xs (find id xs) ≡ true) × (allPlain (below id xs) ≡ true)

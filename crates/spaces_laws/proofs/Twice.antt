@@ -17,10 +17,11 @@ use Rattle.spaces.specs.Gross.{exempt}
 use Rattle.spaces.specs.Valid.{Valid}
 use Rattle.spaces.proofs.laws.Cases.{by-test, not-both}
 use Rattle.spaces_laws.specs.Above.{_∈_, Above}
+use Rattle.spaces_laws.specs.Sound.{Sound}
 use Rattle.spaces_laws.proofs.Tests.{and-holds, and-holds-of, and-fails-of}
 use Rattle.spaces_laws.proofs.Lists.{found-stands, only-at-most, sum-at-most, sum-of-sums, one-within-sum, sum-of-none, sums-exchange, inside-adds}
 use Rattle.spaces_laws.proofs.Walk.{enclosing-of-room, enclosing-stands, above-exactly, above-of-room, upward-stands, plain-of-all, all-plain-of, below-exactly}
-use Rattle.spaces_laws.proofs.Valid.{Sound, same-by-id, valid-is-sound}
+use Rattle.spaces_laws.proofs.Valid.{same-by-id, valid-is-sound}
 use Rattle.spaces_laws.proofs.Standings.{may-take-is, Kinded, hull, hatchway, room, kinded}
 
 -- what is anywhere above a space that isn't plain is plain

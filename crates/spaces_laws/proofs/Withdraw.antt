@@ -1,10 +1,8 @@
--- A withdrawal is accepted exactly where the id stands and no room is directly inside, and then leaves a valid sheet. Stands on Entry,
--- Changes.
+-- A withdrawal is accepted exactly where the id stands and no room is directly inside, and then leaves a valid sheet. Stands on Entry.
 use Prim.Native.Nat.{ℕ, zero, suc, _≤_}
 use mathlib.Core.Path.{_≡_, refl, sym, ap, _∙_}
 use mathlib.Core.Bool.{true, false, not}
 use mathlib.Core.List.{List, [], _∷_, _++_, append-nil, List·Memᴰ·head, List·Memᴰ·tail, List·Memᴰ·not-nil}
-use mathlib.Core.Option.{some}
 use native.Mathlib.Nat.{le-of-eq}
 use native.Mathlib.Omega.{arith}
 use borrow.Author.Tests.{ltb-false, le-ltb, eqb-true, eqb-false, not-false}
@@ -22,21 +20,12 @@ use Rattle.spaces.specs.Valid.{ValidFrom, done, next, Valid}
 use Rattle.spaces.proofs.laws.Cases.{by-test, by-option}
 use Rattle.spaces.proofs.laws.Enclosure.{upward-next, upward-none}
 use Rattle.spaces_laws.specs.Above.{_∈_}
+use Rattle.spaces_laws.specs.Accepted.{Accepted, Outside, Withdrawable}
 use Rattle.spaces_laws.proofs.Refusals.{none-applies, apart, together}
 use Rattle.spaces_laws.proofs.Lists.{all-snoc, find-further, some-of, one-within-sum, sum-of-none, inside-adds, outside-adds-none}
 use Rattle.spaces_laws.proofs.Walk.{enclosing-of-other, enclosing-of-room, enclosing-stands}
-use Rattle.spaces_laws.proofs.Entry.{Accepted, facts-of-entry, entry-of-facts}
+use Rattle.spaces_laws.proofs.Entry.{facts-of-entry, entry-of-facts}
 use Rattle.spaces_laws.specs.Changes.{without}
-
--- a space is no room directly inside the one with an id
-abbrev pub Outside : ℕ → Space → Type 0
-Outside id y = isRoom y ≡ true → y .within ≡ id → ⊥
-
--- what the numbers 5 and 11 leave of a withdrawal
-pub record Withdrawable (xs : List Space) (id : ℕ) : Type 0 where
-  pub it : Space
-  pub it-stands : find id xs ≡ some it
-  pub no-room-inside : (y : Space) → y ∈ xs → Outside id y
 
 pub facts-of-withdrawal : (xs : List Space) (id : ℕ) → withdrawNumber xs id ≡ 0 → Withdrawable xs id
 unfolding withdrawNumber
