@@ -26,16 +26,19 @@ HEAD = re.compile(r'^[ \t]*pub (?:extern "C" )?fn (\w+)\(', re.M)
 PARAMETER = re.compile(r'(?:^|,)\s*(?:mut )?(self\b|\w+\s*:[^,]*)')
 LENT = re.compile(r"&(?:'\w+ )?mut ")
 PART = re.compile(r'\s*->\s*&')
+BODY = re.compile(r'^[ \t]*\{$', re.M)
+AND_MORE = re.compile(r'⌜ \((?:now )?r ≡')
 
 
 @dataclass
 class Function:
-    """A public function: where the check keeps its contract, which parameters are lent to change, and whether it answers a part
-    of a slice."""
+    """A public function: where the check keeps its contract, which parameters are lent to change, whether it answers a part of a
+    slice, and whether its contract says more of the answer than what it equals."""
     crate: str
     path: str
     lent: list[bool]
     part: bool
+    and_more: bool
 
     def name(self) -> str:
         own = self.path.rpartition('.')[2].removeprefix(f'{self.crate}_')
@@ -50,7 +53,8 @@ class Function:
 
     def proof(self) -> str:
         if not any(self.lent):
-            return ' record { nothing-asked = tt; one-answer = agree; one-left = λ p q. refl }'
+            answer = 'λ p q. agree (p .0) (q .0)' if self.and_more else 'agree'
+            return f' record {{ nothing-asked = tt; one-answer = {answer}; one-left = λ p q. refl }}'
         left = 'tt'
         for lent in reversed(self.lent):
             left = f'({"b" if lent else "tt"}, {left})'
@@ -84,7 +88,8 @@ def public_functions(crate: str) -> Iterator[Function]:
             path = f'{home}.{of}.{head[1]}' if of else f'{home}.{head[1]}' if home in modules else head[1]
             end = closing(text, head.end())
             lent = [bool(LENT.search(each)) for each in PARAMETER.findall(text[head.end():end - 1])]
-            yield Function(crate, path, lent, bool(PART.match(text, end)))
+            contract = text[end:BODY.search(text, end).start()]
+            yield Function(crate, path, lent, bool(PART.match(contract)), bool(AND_MORE.search(contract)))
 
 
 def libraries() -> list[str]:
