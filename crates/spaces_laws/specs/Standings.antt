@@ -2,8 +2,8 @@
 use Prim.Native.Nat.{ℕ}
 
 -- "0 plain, 1 exempt, 2 exempt as water ballast, 3 deducted. U and H take only 0; B and S take 0 or 1; R takes all four": the kind with
--- this code (1 U, 2 B, 3 S, 4 H, 5 R) may have this standing. These ten of the twenty places; the other ten are no one's.
--- `mayTake` is so at these places, and at no other (proofs, Standings).
+-- this code (1 U, 2 B, 3 S, 4 H, 5 R) may have this standing. So it is at ten of the twenty places, and at no other: `mayTake` allows
+-- these, and nothing else (proofs/Standings).
 pub data MayTake : ℕ → ℕ → Type 0 where
   plain-U : MayTake 1 0
   plain-B : MayTake 2 0

@@ -38,38 +38,47 @@ told s e q = firstOf ((not (usable s), 1) ∷ from-2 s e q)
 abbrev next : Sheet → Entry → Measured → Sheet
 next s e q = changed (Entered (entryOf e (q .tonnage))) s
 
--- what is answered on an open sheet with the standing in its range, where measuring the offsets gives q: by what measuring answered,
--- the record x that was made of it, the number k of its entry, and the sheet with the entry made and then noted
-module _ (s : Sheet) (e : Entry) (q : Measured) (on : usable s ≡ true) (three : e .standing ≤ 3) where
-  past-2 : told s e q ≡ firstOf (from-3 s e q)
-  past-2 = is-open s (from-2 s e q) on ∙ passes (ltb 3 (e .standing)) 2 (from-3 s e q) (le-ltb 3 (e .standing) three)
+-- 1 and 2 are passed over on an open sheet with the standing in its range
+past-2 : (s : Sheet) (e : Entry) (q : Measured) → usable s ≡ true → e .standing ≤ 3 → told s e q ≡ firstOf (from-3 s e q)
+past-2 s e q on three = is-open s (from-2 s e q) on ∙ passes (ltb 3 (e .standing)) 2 (from-3 s e q) (le-ltb 3 (e .standing) three)
 
-  by-offsets : (r : Measured) → r ≡ q → (r .number ≡ 0 → ⊥) → _≡_ {A = Changed} (record { number = r .number; sheet = s }) (answered (told s e q) s (next s e q))
-  by-offsets r m some =
-      let k = ap (λ (x : Measured). x .number) m in
-      let first = applies (not (eqb (q .number) 0)) (q .number) (from-4 s e q) (ap not (ne-eqb (q .number) 0 (rw k at some))) in
-      refused (r .number) s (next s e q) some ∙ ap (λ (n : ℕ). answered n s (next s e q)) (k ∙ sym (past-2 ∙ first))
+-- what is answered where measuring answered r, a refusal
+by-offsets : (s : Sheet) (e : Entry) (q : Measured) → usable s ≡ true → e .standing ≤ 3 → (r : Measured) → r ≡ q → (r .number ≡ 0 → ⊥)
+    → _≡_ {A = Changed} (record { number = r .number; sheet = s }) (answered (told s e q) s (next s e q))
+by-offsets s e q on three r m some =
+    let k = ap (λ (x : Measured). x .number) m in
+    let first = applies (not (eqb (q .number) 0)) (q .number) (from-4 s e q) (ap not (ne-eqb (q .number) 0 (rw k at some))) in
+    refused (r .number) s (next s e q) some ∙ ap (λ (n : ℕ). answered n s (next s e q)) (k ∙ sym (past-2 s e q on three ∙ first))
 
-  module _ (r : Measured) (m : r ≡ q) (none : r .number ≡ 0) (x : Space) (made-of : x ≡ entryOf e (r .tonnage)) (k : ℕ)
-      (judged : k ≡ entryNumber (s .length) (standing s) x) where
-    of-record : x ≡ entryOf e (q .tonnage)
-    of-record = made-of ∙ ap (λ (y : Measured). entryOf e (y .tonnage)) m
+-- else the record x is made of what measuring answered, and k is the number of its entry
+record Judged (s : Sheet) (e : Entry) (q : Measured) (x : Space) (k : ℕ) : Type 0 where
+  on : usable s ≡ true
+  three : e .standing ≤ 3
+  answer : Measured
+  answer-is : answer ≡ q
+  none : answer .number ≡ 0
+  made-of : x ≡ entryOf e (answer .tonnage)
+  number-is : k ≡ entryNumber (s .length) (standing s) x
 
-    number-is : k ≡ told s e q
-    unfolding entryNumber
-    number-is =
-        let z : q .number ≡ 0 = rw m at none in
-        let past-3 = passes (not (eqb (q .number) 0)) (q .number) (from-4 s e q) (ap not (eq-eqb (q .number) 0 z)) in
-        judged ∙ ap (λ (y : Space). entryNumber (s .length) (standing s) y) of-record ∙ sym (past-2 ∙ past-3)
+module _ (s : Sheet) (e : Entry) (q : Measured) (x : Space) (k : ℕ) (j : Judged s e q x k) where
+  of-record : x ≡ entryOf e (q .tonnage)
+  of-record = j .made-of ∙ ap (λ (y : Measured). entryOf e (y .tonnage)) (j .answer-is)
 
-    by-record : (k ≡ 0 → ⊥) → _≡_ {A = Changed} (record { number = k; sheet = s }) (answered (told s e q) s (next s e q))
-    by-record some = refused k s (next s e q) some ∙ ap (λ (n : ℕ). answered n s (next s e q)) number-is
+  number-told : k ≡ told s e q
+  unfolding entryNumber
+  number-told =
+      let zero : q .number ≡ 0 = rw (j .answer-is) at (j .none) in
+      let past-3 = passes (not (eqb (q .number) 0)) (q .number) (from-4 s e q) (ap not (eq-eqb (q .number) 0 zero)) in
+      j .number-is ∙ ap (λ (y : Space). entryNumber (s .length) (standing s) y) of-record ∙ sym (past-2 s e q (j .on) (j .three) ∙ past-3)
 
-    accepted : k ≡ 0 → (after noted-after : Sheet) → after ≡ made (Entered x) s → noted-after ≡ noted (Entered x) after
-        → _≡_ {A = Changed} (record { number = 0; sheet = noted-after }) (answered (told s e q) s (next s e q))
-    accepted zero after noted-after a n =
-        let whole : noted-after ≡ next s e q = n ∙ ap (noted (Entered x)) a ∙ ap (λ (y : Space). changed (Entered y) s) of-record in
-        ap (λ (y : Sheet). record { number = 0; sheet = y }) whole ∙ ap (λ (j : ℕ). answered j s (next s e q)) (sym zero ∙ number-is)
+  by-record : (k ≡ 0 → ⊥) → _≡_ {A = Changed} (record { number = k; sheet = s }) (answered (told s e q) s (next s e q))
+  by-record some = refused k s (next s e q) some ∙ ap (λ (n : ℕ). answered n s (next s e q)) number-told
+
+  accepted : k ≡ 0 → (after noted-after : Sheet) → after ≡ made (Entered x) s → noted-after ≡ noted (Entered x) after
+      → _≡_ {A = Changed} (record { number = 0; sheet = noted-after }) (answered (told s e q) s (next s e q))
+  accepted zero after noted-after a n =
+      let whole : noted-after ≡ next s e q = n ∙ ap (noted (Entered x)) a ∙ ap (λ (y : Space). changed (Entered y) s) of-record in
+      ap (λ (y : Sheet). record { number = 0; sheet = y }) whole ∙ ap (λ (i : ℕ). answered i s (next s e q)) (sym zero ∙ number-told)
 
 usable-requires : tie.Need-usable-requires
 usable-requires c κs = search needs
@@ -117,26 +126,32 @@ space-requires c κs = search needs
 entry-number-requires : tie.Need-entry-number-requires
 entry-number-requires c κs = search needs
 
+judged : (n : tie.After-entry-number)
+    → (let s = n .before .before .before .before .before .before .before .before .before .before .before .before in
+    let sh = s .args .self in
+    let q = measuredFor sh (s .args .entry) (s .args .heights .now) (s .args .breadths .now) in
+    Judged sh (s .args .entry) q (n .before .before .space .result) (n .entry-number .result))
+judged n =
+    let d = n .before .before in
+    let o = d .before .before .before in
+    record {
+      on = holds (o .before .before .before .before .usable .ensures .usable-is) (o .before .before .before .if1 .left);
+      three = o .before .if2 .left;
+      answer = o .measure-offsets .result;
+      answer-is = o .measure-offsets .ensures;
+      none = d .before .if3 .left;
+      made-of = d .space .ensures;
+      number-is = n .entry-number .ensures;
+    }
+
 returns-4 : tie.Need-returns-4
 unfolding entered
 returns-4 c =
-    let s = c .before .before .before .before .before .before .before .before .before .before .before .before .before in
+    let n = c .before in
+    let s = n .before .before .before .before .before .before .before .before .before .before .before .before in
     let sh = s .args .self in
-    let e = s .args .entry in
-    let q = measuredFor sh e (s .args .heights .now) (s .args .breadths .now) in
-    let d = c .before .before .before in
-    let o = d .before .before .before in
-    by-record sh e q
-    (holds (o .before .before .before .before .usable .ensures .usable-is) (o .before .before .before .if1 .left))
-    (o .before .if2 .left)
-    (o .measure-offsets .result)
-    (o .measure-offsets .ensures)
-    (d .before .if3 .left)
-    (d .space .result)
-    (d .space .ensures)
-    (c .before .entry-number .result)
-    (c .before .entry-number .ensures)
-    (c .if4 .taken)
+    let q = measuredFor sh (s .args .entry) (s .args .heights .now) (s .args .breadths .now) in
+    by-record sh (s .args .entry) q (n .before .before .space .result) (n .entry-number .result) (judged n) (c .if4 .taken)
 
 made-requires : tie.Need-made-requires
 made-requires c κs = places (c .before .before .before .before .before .before .before .before .before .before .usable .ensures) (not-false _ (c .before .before .before .before .before .before .before .before .before .if1 .left))
@@ -147,23 +162,11 @@ noted-requires c κs = rw (c .made .ensures) (fitted-open-places _ _ (open-place
 returns-5 : tie.Need-returns-5
 unfolding entered
 returns-5 c =
-    let s = c .before .before .before .before .before .before .before .before .before .before .before .before .before .before .before in
-    let sh = s .args .self in
-    let e = s .args .entry in
-    let q = measuredFor sh e (s .args .heights .now) (s .args .breadths .now) in
     let n = c .before .before .before in
-    let d = n .before .before in
-    let o = d .before .before .before in
-    accepted sh e q
-    (holds (o .before .before .before .before .usable .ensures .usable-is) (o .before .before .before .if1 .left))
-    (o .before .if2 .left)
-    (o .measure-offsets .result)
-    (o .measure-offsets .ensures)
-    (d .before .if3 .left)
-    (d .space .result)
-    (d .space .ensures)
-    (n .entry-number .result)
-    (n .entry-number .ensures)
+    let s = n .before .before .before .before .before .before .before .before .before .before .before .before in
+    let sh = s .args .self in
+    let q = measuredFor sh (s .args .entry) (s .args .heights .now) (s .args .breadths .now) in
+    accepted sh (s .args .entry) q (n .before .before .space .result) (n .entry-number .result) (judged n)
     (c .before .before .if4 .left)
     (c .before .made .result)
     (c .noted .result)
