@@ -22,7 +22,7 @@ use Rattle.dayfile.proofs.laws.Reading.{Framed, framed, count-fits, judged, rea
 use Rattle.dayfile_laws.specs.Writing.{Puts}
 use Rattle.dayfile_laws.specs.Day.{ResumableSheet, Writable, asRead}
 use Rattle.dayfile_laws.proofs.Records.{records-written, trailer-written}
-use Rattle.dayfile_laws.proofs.Writable.{standing-same, length-same, has-200-places, made-again}
+use Rattle.dayfile_laws.proofs.Resumed.{standing-same, length-same, has-200-places, made-again}
 use Rattle.dayfile_laws.proofs.Writing.{puts-its-bytes}
 use Rattle.dayfile_laws.proofs.WrittenRead.{has-places}
 
