@@ -1,7 +1,7 @@
 -- "Reading judges the last sheet only; bytes before it don't matter": a file that ends in a sheet's frame is read the same, accepted or
 -- refused, with any other bytes before its last sheet. Of a file without a frame that isn't so. It is refused with 16, and bytes before
 -- it can give it one where it is too short: a trailer alone is shorter than its distance, and with its records before it is a sheet.
--- Where its 28 last bytes are no right trailer, it is refused with 16 behind any bytes.
+-- Where its last 28 bytes are no right trailer, it is refused with 16 behind any bytes (`wrong-behind`).
 use Prim.Native.Nat.{ℕ, _+_, _-_, _≤_}
 use mathlib.Core.Path.{_≡_, refl, sym, ap, _∙_}
 use mathlib.Core.Bool.{Bool, true, false, cond, not}

@@ -5,7 +5,7 @@ pub mod Fields
 pub mod Faults
 pub mod LastSheet
 pub mod Records
-pub mod Writable
+pub mod Resumed
 pub mod Fitting
 pub mod Writing
 pub mod WrittenRead

@@ -15,14 +15,14 @@ use Rattle.dayfile.specs.Numbers.{Bytes}
 use Rattle.dayfile.specs.Record.{recordSize, records, recordsIn, spacesOf}
 use Rattle.dayfile.specs.Trailer.{trailerSize, sheetSize, trailerBytes}
 use Rattle.dayfile.specs.Writing.{trailerFor, sheetBytes, writtenInto}
-use Rattle.dayfile.specs.Reading.{lastTrailer, startOf, lastRecords, faultIn, sheetIn, readOf}
+use Rattle.dayfile.specs.Reading.{lastTrailer, startOf, lastRecords, faultIn, sheetIn, readOf, ReadingAccepted}
 use Rattle.dayfile.proofs.laws.Trailer.{tonnage-length-fits}
 use Rattle.dayfile.proofs.laws.Writing.{trailer-is}
-use Rattle.dayfile.proofs.laws.Reading.{Framed, framed, count-fits, judged, ReadingAccepted, reading-accepted}
+use Rattle.dayfile.proofs.laws.Reading.{Framed, framed, count-fits, judged, reading-accepted}
 use Rattle.dayfile_laws.specs.Writing.{Puts}
 use Rattle.dayfile_laws.specs.Day.{ResumableSheet, Writable, asRead}
 use Rattle.dayfile_laws.proofs.Records.{records-written, trailer-written}
-use Rattle.dayfile_laws.proofs.Writable.{standing-same, length-same, has-200-places, made-again}
+use Rattle.dayfile_laws.proofs.Resumed.{standing-same, length-same, has-200-places, made-again}
 use Rattle.dayfile_laws.proofs.Writing.{puts-its-bytes}
 use Rattle.dayfile_laws.proofs.WrittenRead.{has-places}
 

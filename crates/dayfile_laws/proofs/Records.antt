@@ -1,4 +1,5 @@
--- Records and trailers, both ways: what fits its fields is read back, and what was read fitting is written back. Stands on Fields.
+-- Records and trailers, both ways: what fits its fields is read back, and what was read fitting is written back. Stands on Fields,
+-- Faults.
 use Prim.Native.Nat.{ℕ, zero, suc, _+_, _*_, _≤_}
 use mathlib.Core.Path.{_≡_, refl, sym, ap, _∙_}
 use mathlib.Core.Bool.{true, not}

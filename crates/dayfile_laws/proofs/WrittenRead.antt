@@ -1,4 +1,5 @@
--- Written, then read: a sheet that resumes comes back from its bytes, whatever stands before them. Stands on Fitting, Writing.
+-- Written, then read: a sheet that resumes comes back from its bytes, whatever stands before them. Stands on LastSheet, Fitting,
+-- Writing.
 use Prim.Native.Nat.{ℕ, _+_, _-_, _≤_}
 use mathlib.Core.Path.{_≡_, refl, sym, ap, _∙_}
 use mathlib.Core.Bool.{true}
@@ -31,7 +32,7 @@ use Rattle.dayfile_laws.specs.Day.{ResumableSheet, Writable, sheetWith, 
 use Rattle.dayfile_laws.proofs.Fields.{InFields, fitting-of}
 use Rattle.dayfile_laws.proofs.LastSheet.{same-numbers, WholeSheet, trailer-behind, starts-behind, records-behind, framed-behind}
 use Rattle.dayfile_laws.proofs.Records.{Fits, records-read, spaces-of-numbers, trailer-read}
-use Rattle.dayfile_laws.proofs.Writable.{standing-same, length-same, is-usable, same-report, none-open}
+use Rattle.dayfile_laws.proofs.Resumed.{standing-same, length-same, is-usable, same-report, none-open}
 use Rattle.dayfile_laws.proofs.Fitting.{in-range, each-fits, gross-at-most, net-at-most}
 use Rattle.dayfile_laws.proofs.Writing.{placed-up-to, write-accepted}
 
@@ -46,7 +47,7 @@ none-faulty : (L : ℕ) (xs : List Space) → ((x : Space) → x ∈ xs → Fits
     → firstFaulty L [] (map numbersOf xs) ≡ 0
 none-faulty L xs fit none = judged L [] (map numbersOf xs) .none-faulty (rw (each-read-as xs fit) none)
 
--- ---- the sheet as it is read
+-- ---- written, then read
 
 module _ (s : Sheet) (justified : ℕ) (w : Writable s justified) where
   report-given : Given s justified (reported s justified)

@@ -36,7 +36,7 @@ use Rattle.dayfile.specs.Reading.{lastNumbers, lastTrailer, startOf, lastRecord
 use Rattle.dayfile.proofs.laws.Trailer.{within-trailer}
 use Rattle.dayfile.proofs.laws.Reading.{framed, count-fits, read-17}
 use Rattle.dayfile_laws.specs.Faults.{FaultExactly}
-use Rattle.dayfile_laws.proofs.Writable.{is-usable}
+use Rattle.dayfile_laws.proofs.Resumed.{is-usable}
 use Rattle.dayfile_laws.proofs.Faults.{fault-exactly}
 use Rattle.dayfile_laws.proofs.ReadWritten.{length-spaces}
 use Rattle.demands.specs.Reached.{DayCall, call, write, handedBack, numberOf}

@@ -1,4 +1,4 @@
--- A sheet that can be written, and the sheet that reading makes of it. Stands on nothing of the file.
+-- The sheet that `resume` makes of some records, which reading answers. Stands on nothing of the file.
 use Prim.Native.Nat.{ℕ, _≤_}
 use mathlib.Core.Path.{_≡_, refl, ap, _∙_}
 use mathlib.Core.Bool.{true}
@@ -13,8 +13,6 @@ use Rattle.sheet.specs.Sheet.{standing, usable, blank}
 use Rattle.sheet.specs.Calls.{counted, reported}
 use Rattle.sheet.specs.declared.sheet.Sheet.{Sheet}
 use Rattle.dayfile_laws.specs.Day.{sheetWith}
-
--- ---- the sheet that `resume` makes
 
 module _ (L : ℕ) (xs : List Space) where
   pub standing-same : standing (sheetWith L xs) ≡ xs
