@@ -109,7 +109,7 @@ module _ (L : ℕ) (records : List (List ℕ)) where
   not-faulty : {p : ℕ} → FirstFault L records p → NoFault L records → ⊥
   not-faulty {p} a none = not-both (a .faulty-there) (none p (a .at-least-1) (a .at-most-all))
 
-  pub fault-exactly : FaultExactly L records found
+  pub fault-exactly : FaultExactly L records (firstFaulty L [] records)
   fault-exactly =
       by-test (eqb found 0)
       (λ t.
