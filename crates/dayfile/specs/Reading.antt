@@ -1,5 +1,6 @@
 -- "Reading judges the last sheet only; bytes before it don't matter."
 use Prim.Native.Nat.{ℕ, _+_, _-_}
+use mathlib.Core.Path.{_≡_}
 use mathlib.Core.Bool.{Bool, true, false, cond, not, _||_}
 use mathlib.Core.List.{List, [], _∷_, _++_}
 use lib.Dec.{eqb, ltb}
@@ -96,3 +97,12 @@ readOf file =
     cond (eqb (readNumber file) 0)
     (acceptedReading (sheetIn file) (lastTrailer file .justified) (startOf file))
     (refusedReading (readNumber file) (cond (eqb (readNumber file) 17) (faultIn file) 0))
+
+-- An accepted reading as facts: 16, 17, then 13 or 14, then 18, none of which applies, and what is answered (proofs/laws/Reading).
+pub record ReadingAccepted (file : List ℕ) : Type 0 where
+  pub ends-in-sheet : noSheet file ≡ false
+  pub no-fault : faultIn file ≡ 0
+  pub reports : reported (sheetIn file) (lastTrailer file .justified) .number ≡ 0
+  pub gross-is : gross (standing (sheetIn file)) ≡ lastTrailer file .gross
+  pub net-is : net (standing (sheetIn file)) ≡ lastTrailer file .net
+  pub reading-is : readOf file ≡ acceptedReading (sheetIn file) (lastTrailer file .justified) (startOf file)

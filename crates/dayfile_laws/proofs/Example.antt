@@ -16,7 +16,7 @@ use Rattle.sheet.specs.declared.sheet.Sheet.{Sheet}
 use Rattle.sheet.specs.declared.calls.Reported.{Reported}
 use Rattle.sheet_laws.proofs.Resumable.{resumable-exactly}
 use Rattle.dayfile.specs.Writing.{sheetBytes}
-use Rattle.dayfile_laws.proofs.Writable.{ResumableSheet, Writable, sheetWith}
+use Rattle.dayfile_laws.specs.Day.{ResumableSheet, Writable, sheetWith}
 use Rattle.dayfile_laws.proofs.WrittenRead.{length-bytes}
 
 -- "tonnage length 4800; space 1 the U above; 2 the S above; 3 a room in 1, standing 2 ..; 4 a room in 2, standing 3 ..; 5 a hatchway"

@@ -17,7 +17,7 @@ use Rattle.standard.specs.Valid.{ValidFrom, done, next, Valid}
 use Rattle.spaces.proofs.laws.Cases.{by-test, none-not-some}
 use Rattle.spaces_laws.proofs.Lists.{member-at, find-here, find-further, find-before, find-behind, unfound-absent}
 use Rattle.spaces_laws.proofs.Entry.{facts-of-entry}
-use Rattle.spaces_laws.proofs.Changes.{restanding, without, marked}
+use Rattle.spaces_laws.specs.Changes.{restanding, without, marked}
 use Rattle.spaces_laws.proofs.Withdraw.{withdrawal-by-id-keeps-valid}
 use Rattle.spaces_laws.proofs.Mark.{mark-by-id-keeps-valid}
 

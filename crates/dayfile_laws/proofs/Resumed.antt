@@ -1,4 +1,4 @@
--- A sheet that can be written, and the sheet that reading makes of it. Stands on nothing of the file.
+-- The sheet that `resume` makes of some records, which reading answers. Stands on nothing of the file.
 use Prim.Native.Nat.{ℕ, _≤_}
 use mathlib.Core.Path.{_≡_, refl, ap, _∙_}
 use mathlib.Core.Bool.{true}
@@ -7,31 +7,12 @@ use native.Mathlib.Omega.{arith}
 use borrow.Author.Tests.{le-leb}
 use lib.ListN.{length, drop, replicate, length-append, length-drop, length-replicate}
 use lib.Seq.{take-append-seam}
-use Rattle.measure.specs.Ranges.{within, tonnageLengths}
 use Rattle.spaces.specs.Space.{emptySpace}
 use Rattle.spaces.specs.declared.space.Space.{Space}
 use Rattle.sheet.specs.Sheet.{standing, usable, blank}
-use Rattle.sheet.specs.Changes.{withStanding}
 use Rattle.sheet.specs.Calls.{counted, reported}
 use Rattle.sheet.specs.declared.sheet.Sheet.{Sheet}
-use Rattle.sheet_laws.proofs.Resumable.{Resumable}
-
--- `resume` accepts the standing spaces with the tonnage length; and the sheet has its 200 places, as every one in the code has
-pub record ResumableSheet (s : Sheet) : Type 0 where
-  pub places : length (s .spaces) ≡ 200
-  pub length-in-range : within tonnageLengths (s .length) ≡ true
-  pub resumable : Resumable (s .length) (standing s)
-
--- and a report with the justified mark is given: so it is written, wherever there is room
-pub record Writable (s : Sheet) (justified : ℕ) : Type 0 where
-  pub sheet : ResumableSheet s
-  pub reports : reported s justified .number ≡ 0
-
--- ---- the sheet that `resume` makes
-
--- of some records with a tonnage length
-abbrev pub sheetWith : ℕ → List Space → Sheet
-sheetWith L xs = withStanding xs (blank true L)
+use Rattle.dayfile_laws.specs.Day.{sheetWith}
 
 module _ (L : ℕ) (xs : List Space) where
   pub standing-same : standing (sheetWith L xs) ≡ xs

@@ -1,5 +1,5 @@
--- A withdrawal and a mark by id, as the paper speaks of them ("Changes: enter, withdraw, mark"). Places ties them to the place in the
--- order.
+-- A withdrawal and a mark by id, as the paper speaks of them ("Changes: enter, withdraw, mark"). proofs/Places ties them to the place in
+-- the order.
 use Prim.Native.Nat.{ℕ}
 use mathlib.Core.Bool.{cond}
 use mathlib.Core.List.{List, [], _∷_, map}
