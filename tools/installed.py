@@ -33,15 +33,15 @@ DROPPED_IN_PLACE = DROPPED.replace('fummidrake_undo(sheet)', 'fummidrake_undo_on
 
 
 def run(*words: str, given: str = '') -> subprocess.CompletedProcess:
-    without_make = {name: value for name, value in os.environ.items() if not name.startswith('MAKE')}
-    return subprocess.run(words, input=given, stdout=subprocess.PIPE, stderr=subprocess.STDOUT, text=True, env=without_make)
+    around = {name: value for name, value in os.environ.items() if not name.startswith('MAKE')} | {'LC_ALL': 'C'}
+    return subprocess.run(words, input=given, stdout=subprocess.PIPE, stderr=subprocess.STDOUT, text=True, env=around)
 
 
 # The archive
 
 def archive_faults() -> Iterator[str]:
-    nm = run(*COMPILER, '-print-prog-name=nm').stdout.strip()
-    found = re.findall(r'(?m)^(?:[0-9a-f]+| +) ([A-Z]) (\w+)$', run(nm, '-g', str(ARCHIVE)).stdout)
+    listed = run('tools/x86', 'nm', '-g', str(ARCHIVE)).stdout
+    found = re.findall(r'(?m)^(?:[0-9a-f]+| +) ([A-Z]) (\w+)$', listed)
     wanted = {name for letter, name in found if letter == 'U'}
     own = {name for letter, name in found if letter == 'T'}
     if wanted != WANTED:

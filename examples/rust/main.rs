@@ -21,10 +21,8 @@ fn print_spaces(sheet: &Sheet) {
     println!();
 }
 
-/// Prints a report, and hands on the sheet, which is as it came.
-fn print_report(answer: Reported) -> Sheet {
+fn print_report(answer: &Reported) {
     println!("report {} {} {}", answer.number, answer.gross, answer.net);
-    answer.sheet
 }
 
 /// Writes the sheet into a buffer of 108 bytes, and prints them.
@@ -68,14 +66,15 @@ fn main() -> std::io::Result<()> {
     print_spaces(&sheet);
     let counted = sheet.counts();
     println!("counts 0 {} {}", counted.undoable, counted.redoable);
-    let sheet = print_report(counted.sheet.report(0));
+    let reported = counted.sheet.report(0);
+    print_report(&reported);
 
-    let file = written(sheet);
+    let file = written(reported.sheet);
     let reading = read(&file);
     println!("read {} {} {} {}", reading.number, reading.position, reading.justified, reading.start);
     print_spaces(&reading.sheet);
     let sheet = answered("undo", reading.sheet.undo());
-    let _the_same = print_report(sheet.report(reading.justified));
+    print_report(&sheet.report(reading.justified));
 
     std::io::stdout().write_all(list(&file).text())
 }
