@@ -4,7 +4,7 @@ import unittest
 from xml.etree import ElementTree
 
 from reference import dayfile, files
-from reference.picture import NAMES, STANDINGS, picture
+from picture.picture import NAMES, STANDINGS, picture
 
 SVG = "{http://www.w3.org/2000/svg}"
 # A chain of eight, and nine rooms in the first: more than stand side by side.
