@@ -7,7 +7,7 @@ use lib.Dec.{eqb}
 use lib.ListN.{length, getD}
 use Rattle.measure.specs.Kinds.{kindOf, isKind}
 use Rattle.measure.specs.Parts.{partsOf, underDeckParts, tableParts, superstructureParts, depthParts}
-use Rattle.measure.specs.Volumes.{CubicFeet, tons, hundredths, underDeckVolume, levelVolume, boxVolume}
+use Rattle.measure.specs.Volumes.{CubicFeet, tons, hundredths, underDeckVolume, levelVolume, boxVolume, noVolume}
 use Rattle.measure.specs.Ranges.{within, allWithin, tonnageLengths, lengths, heights, breadths}
 use Rattle.measure.specs.Refusals.{firstOf}
 use Rattle.measure.specs.declared.units.Hundredths.{Hundredths}
@@ -49,7 +49,7 @@ volume BetweenDeck t l hs bs = levelVolume l (tableParts t) hs bs
 volume Superstructure t l hs bs = levelVolume l (superstructureParts t l) hs bs
 volume Hatchway t l hs bs = boxVolume l (getD hs 0 0) (getD bs 0 0)
 volume Room t l hs bs = boxVolume l (getD hs 0 0) (getD bs 0 0)
-volume NoKind t l hs bs = boxVolume l (getD hs 0 0) (getD bs 0 0)
+volume NoKind t l hs bs = noVolume
 
 unfoldable pub tonnage : Kind → Hundredths → Hundredths → List ℕ → List ℕ → ℕ
 tonnage k t l hs bs = tons (volume k t l hs bs)

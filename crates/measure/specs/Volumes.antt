@@ -44,3 +44,7 @@ levelVolume l n heights breadths =
 -- H and R: "Length times breadth times height."
 unfoldable pub boxVolume : Hundredths → ℕ → ℕ → CubicFeet
 boxVolume l height breadth = record { over = l.0 * breadth * height; under = 100 * 100 * 100 }
+
+-- what is no space has no volume
+abbrev pub noVolume : CubicFeet
+noVolume = record { over = 0; under = 1 }

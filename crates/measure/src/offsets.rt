@@ -162,6 +162,7 @@ fn tonnage(
         ),
         Kind::Hatchway => box_tons(length, heights, breadths),
         Kind::Room => box_tons(length, heights, breadths),
-        Kind::NoKind => box_tons(length, heights, breadths),
+        // What is no space has no volume.
+        Kind::NoKind => 0,
     }
 }
