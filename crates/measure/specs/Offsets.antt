@@ -1,7 +1,8 @@
 -- One space measured from its offsets: the tonnage, or the refusal. Everywhere t is the tonnage length and l the space's length;
 -- heights are the depths at a U's stations, the heights at a B's or S's, the one height of an H or R.
 use Prim.Native.Nat.{ℕ, _+_, _*_, _/_}
-use mathlib.Core.List.{List, [], _∷_}
+use mathlib.Core.Path.{_≡_}
+use mathlib.Core.List.{List, [], _∷_, _++_}
 use mathlib.Core.Bool.{Bool, cond, not, _&&_}
 use lib.Dec.{eqb}
 use lib.ListN.{length, getD}
@@ -36,6 +37,14 @@ breadthsAtStation NoKind middle = 1
 -- "The depth at the middle station": there is one station more than an even number of parts
 unfoldable pub middleOf : List ℕ → Hundredths
 middleOf hs = hundredths (getD hs (length hs / 2) 0)
+
+-- The same, where the number of stations is odd: as many stand before it as after it. `middleOf` is such a depth, and no other is
+-- (measure_laws, Stations).
+pub record Middle (depths : List ℕ) (d : Hundredths) : Type 0 where
+  pub before : List ℕ
+  pub after : List ℕ
+  pub in-order : depths ≡ before ++ d.0 ∷ after
+  pub as-many : length before ≡ length after
 
 -- 3: heights and breadths are the number the rules ask, or it applies
 unfoldable pub counted : Kind → Hundredths → Hundredths → List ℕ → List ℕ → Bool
