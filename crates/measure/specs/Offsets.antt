@@ -3,7 +3,7 @@
 use Prim.Native.Nat.{ℕ, _+_, _*_, _/_}
 use mathlib.Core.Path.{_≡_}
 use mathlib.Core.List.{List, [], _∷_, _++_}
-use mathlib.Core.Bool.{Bool, cond, not, _&&_}
+use mathlib.Core.Bool.{Bool, true, false, cond, not, _&&_}
 use lib.Dec.{eqb}
 use lib.ListN.{length, getD}
 use Rattle.measure.specs.Kinds.{kindOf, isKind}
@@ -73,3 +73,13 @@ measured code t l hs bs =
     answered
     (firstOf ((not (inRange k t l hs bs), 2) ∷ (not (counted k t l hs bs), 3) ∷ []))
     (tonnage k t l hs bs)
+
+-- The same by the outcomes of the two tests, of an answer m: 2 exactly where the one fails, 3 exactly where the one holds and the other fails,
+-- else accepted with the tonnage. `measured` is such an answer (measure_laws, Offsets).
+pub record Exactly (ranged numbered : Bool) (tons : ℕ) (m : Measured) : Type 0 where
+  pub with-2 : ranged ≡ false → m ≡ record { number = 2; tonnage = 0 }
+  pub with-3 : ranged ≡ true → numbered ≡ false → m ≡ record { number = 3; tonnage = 0 }
+  pub with-0 : ranged ≡ true → numbered ≡ true → m ≡ record { number = 0; tonnage = tons }
+  pub only-2 : m .number ≡ 2 → ranged ≡ false
+  pub only-3 : m .number ≡ 3 → (ranged ≡ true) × (numbered ≡ false)
+  pub only-0 : m .number ≡ 0 → (ranged ≡ true) × (numbered ≡ true)
