@@ -73,10 +73,11 @@ nearestOf t n l [] = 0
 nearestOf t n l (k ∷ []) = k
 nearestOf t n l (k ∷ j ∷ later) = nearer t n l k (nearestOf t n l (j ∷ later))
 
+-- from 2 to 16, rising: of two of them the later is the greater
 abbrev pub evenNumbers : List ℕ
 evenNumbers = 2 ∷ 4 ∷ 6 ∷ 8 ∷ 10 ∷ 12 ∷ 14 ∷ 16 ∷ []
 
--- "the even number from 2 to 16 whose interval is nearest, as exact fractions, to" t / n; "on a tie, the greater number", which is the later
+-- "the even number from 2 to 16 whose interval is nearest, as exact fractions, to" t / n; "on a tie, the greater number"
 unfoldable pub nearestParts : Hundredths → ℕ → Hundredths → ℕ
 nearestParts t n l = nearestOf t n l evenNumbers
 

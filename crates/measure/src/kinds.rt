@@ -2,7 +2,7 @@
 ghost use mathlib.Core.Path.{_≡_};
 ghost use Rattle.measure.specs.Kinds.{kindOf, isKind};
 
-// The codes.
+// The codes of the table.
 pub const UNDER_DECK: u8 = 1;
 
 pub const BETWEEN_DECK: u8 = 2;
