@@ -1,4 +1,5 @@
--- The measuring rules of document 01, in its order: read these files from top to bottom.
+-- The measuring rules of document 01, in its order: read these files from top to bottom. Handed alone is none of them: it has what the
+-- functions inside the crate ask of each other.
 pub mod Kinds
 pub mod Rounding
 pub mod Parts

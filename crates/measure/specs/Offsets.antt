@@ -1,13 +1,14 @@
 -- One space measured from its offsets: the tonnage, or the refusal. Everywhere t is the tonnage length and l the space's length;
 -- heights are the depths at a U's stations, the heights at a B's or S's, the one height of an H or R.
 use Prim.Native.Nat.{ℕ, _+_, _*_, _/_}
-use mathlib.Core.List.{List, [], _∷_}
-use mathlib.Core.Bool.{Bool, cond, not, _&&_}
+use mathlib.Core.Path.{_≡_}
+use mathlib.Core.List.{List, [], _∷_, _++_}
+use mathlib.Core.Bool.{Bool, true, false, cond, not, _&&_}
 use lib.Dec.{eqb}
 use lib.ListN.{length, getD}
 use Rattle.measure.specs.Kinds.{kindOf, isKind}
 use Rattle.measure.specs.Parts.{partsOf, underDeckParts, tableParts, superstructureParts, depthParts}
-use Rattle.measure.specs.Volumes.{CubicFeet, tons, hundredths, underDeckVolume, levelVolume, boxVolume}
+use Rattle.measure.specs.Volumes.{CubicFeet, tons, hundredths, underDeckVolume, levelVolume, boxVolume, noVolume}
 use Rattle.measure.specs.Ranges.{within, allWithin, tonnageLengths, lengths, heights, breadths}
 use Rattle.measure.specs.Refusals.{firstOf}
 use Rattle.measure.specs.declared.units.Hundredths.{Hundredths}
@@ -37,6 +38,14 @@ breadthsAtStation NoKind middle = 1
 unfoldable pub middleOf : List ℕ → Hundredths
 middleOf hs = hundredths (getD hs (length hs / 2) 0)
 
+-- The same, where the number of stations is odd: as many stand before it as after it. `middleOf` is such a depth, and no other is
+-- (measure_laws, Stations).
+pub record Middle (depths : List ℕ) (d : Hundredths) : Type 0 where
+  pub before : List ℕ
+  pub after : List ℕ
+  pub in-order : depths ≡ before ++ d.0 ∷ after
+  pub as-many : length before ≡ length after
+
 -- 3: heights and breadths are the number the rules ask, or it applies
 unfoldable pub counted : Kind → Hundredths → Hundredths → List ℕ → List ℕ → Bool
 counted k t l hs bs =
@@ -49,7 +58,7 @@ volume BetweenDeck t l hs bs = levelVolume l (tableParts t) hs bs
 volume Superstructure t l hs bs = levelVolume l (superstructureParts t l) hs bs
 volume Hatchway t l hs bs = boxVolume l (getD hs 0 0) (getD bs 0 0)
 volume Room t l hs bs = boxVolume l (getD hs 0 0) (getD bs 0 0)
-volume NoKind t l hs bs = boxVolume l (getD hs 0 0) (getD bs 0 0)
+volume NoKind t l hs bs = noVolume
 
 unfoldable pub tonnage : Kind → Hundredths → Hundredths → List ℕ → List ℕ → ℕ
 tonnage k t l hs bs = tons (volume k t l hs bs)
@@ -64,3 +73,13 @@ measured code t l hs bs =
     answered
     (firstOf ((not (inRange k t l hs bs), 2) ∷ (not (counted k t l hs bs), 3) ∷ []))
     (tonnage k t l hs bs)
+
+-- The same by the outcomes of the two tests, of an answer m: 2 exactly where the one fails, 3 exactly where the one holds and the other fails,
+-- else accepted with the tonnage. `measured` is such an answer (measure_laws, Offsets).
+pub record Exactly (ranged numbered : Bool) (tons : ℕ) (m : Measured) : Type 0 where
+  pub with-2 : ranged ≡ false → m ≡ record { number = 2; tonnage = 0 }
+  pub with-3 : ranged ≡ true → numbered ≡ false → m ≡ record { number = 3; tonnage = 0 }
+  pub with-0 : ranged ≡ true → numbered ≡ true → m ≡ record { number = 0; tonnage = tons }
+  pub only-2 : m .number ≡ 2 → ranged ≡ false
+  pub only-3 : m .number ≡ 3 → (ranged ≡ true) × (numbered ≡ false)
+  pub only-0 : m .number ≡ 0 → (ranged ≡ true) × (numbered ≡ true)

@@ -1,6 +1,7 @@
 -- How many parts a length or a depth is divided into ("Parts of a length"; "U"). Lengths and depths are in hundredths of a foot.
-use Prim.Native.Nat.{ℕ, zero, suc, _+_, _*_, _≤_, _<_}
+use Prim.Native.Nat.{ℕ, _*_, _≤_, _<_}
 use mathlib.Core.Path.{_≡_}
+use mathlib.Core.List.{List, [], _∷_}
 use mathlib.Core.Bool.{cond}
 use lib.Dec.{leb, ltb, eqb}
 use Rattle.measure.specs.Rounding.{apart}
@@ -65,14 +66,20 @@ distance t n l k = apart (l.0 * n) (t.0 * k)
 unfoldable pub nearer : Hundredths → ℕ → Hundredths → ℕ → ℕ → ℕ
 nearer t n l b k = cond (leb (distance t n l k * b) (distance t n l b * k)) k b
 
--- of 2, 4, .., 2 j + 2 the nearest, the greatest on a tie
-abbrev pub nearestUpTo : Hundredths → ℕ → Hundredths → ℕ → ℕ
-nearestUpTo t n l zero = 2
-nearestUpTo t n l (suc j) = nearer t n l (nearestUpTo t n l j) (2 * j + 4)
+-- of a list of numbers of parts the nearest, the later on a tie: of one that one, of more the nearer of the first and the nearest of the
+-- later ones (of none, 0)
+abbrev pub nearestOf : Hundredths → ℕ → Hundredths → List ℕ → ℕ
+nearestOf t n l [] = 0
+nearestOf t n l (k ∷ []) = k
+nearestOf t n l (k ∷ j ∷ later) = nearer t n l k (nearestOf t n l (j ∷ later))
+
+-- from 2 to 16, rising: of two of them the later is the greater
+abbrev pub evenNumbers : List ℕ
+evenNumbers = 2 ∷ 4 ∷ 6 ∷ 8 ∷ 10 ∷ 12 ∷ 14 ∷ 16 ∷ []
 
 -- "the even number from 2 to 16 whose interval is nearest, as exact fractions, to" t / n; "on a tie, the greater number"
 unfoldable pub nearestParts : Hundredths → ℕ → Hundredths → ℕ
-nearestParts t n l = nearestUpTo t n l 7
+nearestParts t n l = nearestOf t n l evenNumbers
 
 -- The same said of every even number from 2 to 16: p is one of them, none is nearer, and none as near is greater.
 -- `nearestParts` is such a number, and no other is (measure_laws, Parts).

@@ -1,7 +1,8 @@
 -- Areas, volumes and tonnages ("U", "B and S", "H and R").
-use Prim.Native.Nat.{ℕ, _+_, _*_}
+use Prim.Native.Nat.{ℕ, _+_, _*_, _<_}
+use mathlib.Core.Path.{_≡_}
 use mathlib.Core.List.{List, [], _∷_}
-use lib.ListN.{take, drop}
+use lib.ListN.{length, take, drop, getD}
 use Rattle.measure.specs.Rounding.{nearest}
 use Rattle.measure.specs.Thirds.{thirdOfLength, thirdOfDepth}
 use Rattle.measure.specs.Multipliers.{weighted, total}
@@ -29,6 +30,13 @@ abbrev pub areas : ℕ → List ℕ → List ℕ → List ℕ
 areas m [] breadths = []
 areas m (d ∷ depths) breadths = stationArea m (hundredths d) (take (m + 1) breadths) ∷ areas m depths (drop (m + 1) breadths)
 
+-- The same, a station at a time: as many areas as depths, and the station with i before it has the m + 1 breadths that follow theirs.
+-- `areas` are such a list, and no other is (measure_laws, Stations).
+pub record StationByStation (m : ℕ) (depths breadths found : List ℕ) : Type 0 where
+  pub as-many : length found ≡ length depths
+  pub each : (i : ℕ) → i < length depths
+      → getD found i 0 ≡ stationArea m (hundredths (getD depths i 0)) (take (m + 1) (drop (i * (m + 1)) breadths))
+
 -- U: "The same multipliers over the areas, times the third interval of length, give the volume." Breadths and thirds of depth are
 -- hundredths of a foot, thirds of length thousandths.
 unfoldable pub underDeckVolume : Hundredths → ℕ → ℕ → List ℕ → List ℕ → CubicFeet
@@ -44,3 +52,7 @@ levelVolume l n heights breadths =
 -- H and R: "Length times breadth times height."
 unfoldable pub boxVolume : Hundredths → ℕ → ℕ → CubicFeet
 boxVolume l height breadth = record { over = l.0 * breadth * height; under = 100 * 100 * 100 }
+
+-- what is no space has no volume
+abbrev pub noVolume : CubicFeet
+noVolume = record { over = 0; under = 1 }

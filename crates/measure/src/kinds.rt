@@ -2,6 +2,17 @@
 ghost use mathlib.Core.Path.{_≡_};
 ghost use Rattle.measure.specs.Kinds.{kindOf, isKind};
 
+// The codes of the table.
+pub const UNDER_DECK: u8 = 1;
+
+pub const BETWEEN_DECK: u8 = 2;
+
+pub const SUPERSTRUCTURE: u8 = 3;
+
+pub const HATCHWAY: u8 = 4;
+
+pub const ROOM: u8 = 5;
+
 pub enum Kind {
     UnderDeck,
     BetweenDeck,
@@ -17,11 +28,11 @@ pub fn kind_of(code: u8) -> Kind
     ensures { λ r. ⌜ r ≡ kindOf code ⌝ }
 {
     match code {
-        1 => Kind::UnderDeck,
-        2 => Kind::BetweenDeck,
-        3 => Kind::Superstructure,
-        4 => Kind::Hatchway,
-        5 => Kind::Room,
+        UNDER_DECK => Kind::UnderDeck,
+        BETWEEN_DECK => Kind::BetweenDeck,
+        SUPERSTRUCTURE => Kind::Superstructure,
+        HATCHWAY => Kind::Hatchway,
+        ROOM => Kind::Room,
         _ => Kind::NoKind,
     }
 }

@@ -9,6 +9,7 @@ mod multipliers;
 pub mod offsets;
 mod parts;
 pub mod ranges;
+pub mod refusals;
 mod rounding;
 pub mod thirds;
 pub mod units;

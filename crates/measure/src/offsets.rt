@@ -12,6 +12,8 @@ use crate::ranges::breadths as breadth_range;
 use crate::ranges::heights as height_range;
 use crate::ranges::length_fits;
 use crate::ranges::tonnage_length_fits;
+use crate::refusals::NOT_THE_NUMBER_ASKED;
+use crate::refusals::OUTSIDE_ITS_RANGE;
 use crate::units::Hundredths;
 use crate::volumes::box_tons;
 use crate::volumes::level_tons;
@@ -25,11 +27,6 @@ pub struct Measured {
     pub number: u8,
     pub tonnage: u32,
 }
-
-// 2: a kind or measure outside its range. Every measure handed in is judged, surplus ones too.
-const OUTSIDE_ITS_RANGE: u8 = 2;
-// 3: stations, depths, heights or breadths not the number the rules ask.
-const NOT_THE_NUMBER_ASKED: u8 = 3;
 
 // Measures one space. `heights` are the depths at a U's stations, the heights at a B's or S's, the one height of an H
 // or R; `breadths` go station by station from the bow, and at a U's station from above.
@@ -162,6 +159,7 @@ fn tonnage(
         ),
         Kind::Hatchway => box_tons(length, heights, breadths),
         Kind::Room => box_tons(length, heights, breadths),
-        Kind::NoKind => box_tons(length, heights, breadths),
+        // What is no space has no volume.
+        Kind::NoKind => 0,
     }
 }

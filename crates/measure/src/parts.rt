@@ -50,14 +50,15 @@ pub(crate) fn of_superstructure(tonnage_length: Hundredths, length: Hundredths) 
     nearest_parts(tonnage_length, by_table(tonnage_length), length)
 }
 
-// The even number from 2 to 16 whose interval of `length` is nearest to `whole` divided in `parts`.
+// The even number from 2 to 16 whose interval of `length` is nearest to `whole` divided in `parts`. From the greatest
+// down, so that a lesser one has to be nearer.
 pub(crate) fn nearest_parts(whole: Hundredths, parts: usize, length: Hundredths) -> usize
     requires { ⌜ parts ≤ 16 ⌝ }
     ensures { λ r. ⌜ r ≡ nearestParts whole parts length ⌝ }
 {
-    let mut best = 2;
-    for j in 0..7 {
-        best = nearer(whole, parts, length, best, 2 * j + 4);
+    let mut best = 16;
+    for i in 0..7 {
+        best = nearer(whole, parts, length, 14 - 2 * i, best);
     }
     best
 }

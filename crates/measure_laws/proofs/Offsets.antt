@@ -7,7 +7,7 @@ use Prim.Native.Nat.{ℕ, _≤_, zero-le}
 use native.Mathlib.Omega.{arith}
 use Rattle.measure.specs.Kinds.{kindOf}
 use Rattle.measure.specs.Refusals.{firstOf}
-use Rattle.measure.specs.Offsets.{inRange, counted, tonnage, measured, answered}
+use Rattle.measure.specs.Offsets.{inRange, counted, tonnage, measured, answered, Exactly}
 use Rattle.measure.specs.Handed.{mostTons}
 use Rattle.measure.specs.declared.units.Hundredths.{Hundredths}
 use Rattle.measure.specs.declared.kinds.Kind.{Kind}
@@ -17,14 +17,6 @@ use Rattle.measure.proofs.laws.Offsets.{tonnage-at-most}
 -- the answer of two tests, and which of them hold
 answer : Bool → Bool → ℕ → Measured
 answer ranged numbered tons = answered (firstOf ((not ranged, 2) ∷ (not numbered, 3) ∷ [])) tons
-
-pub record Exactly (ranged numbered : Bool) (tons : ℕ) (m : Measured) : Type 0 where
-  pub with-2 : ranged ≡ false → m ≡ record { number = 2; tonnage = 0 }
-  pub with-3 : ranged ≡ true → numbered ≡ false → m ≡ record { number = 3; tonnage = 0 }
-  pub with-0 : ranged ≡ true → numbered ≡ true → m ≡ record { number = 0; tonnage = tons }
-  pub only-2 : m .number ≡ 2 → ranged ≡ false
-  pub only-3 : m .number ≡ 3 → (ranged ≡ true) × (numbered ≡ false)
-  pub only-0 : m .number ≡ 0 → (ranged ≡ true) × (numbered ≡ true)
 
 exactly : (ranged numbered : Bool) (tons : ℕ) → Exactly ranged numbered tons (answer ranged numbered tons)
 unfolding answer

@@ -32,7 +32,7 @@ multiplier-le n number =
     (chosen (λ x. x ≤ 4) (eqb (number % 2) 0) (lit≤ tt) (lit≤ tt)))
 
 -- the multipliers of k values, the first with this number, added up
-pub multiplierSum : ℕ → ℕ → ℕ → ℕ
+unfoldable pub multiplierSum : ℕ → ℕ → ℕ → ℕ
 multiplierSum n number zero = 0
 multiplierSum n number (suc k) = multiplier n number + multiplierSum n (number + 1) k
 

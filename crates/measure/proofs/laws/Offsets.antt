@@ -8,7 +8,9 @@ use borrow.Author.Tests.{eqb-true}
 use lib.Dec.{eqb, lit≤}
 use lib.ListN.{length}
 use Rattle.measure.specs.Kinds.{isKind}
+use Rattle.measure.specs.Rounding.{nearest}
 use Rattle.measure.specs.Parts.{EvenParts, partsOf, underDeckParts, depthParts}
+use Rattle.measure.specs.Volumes.{tons}
 use Rattle.measure.specs.Ranges.{within, allWithin, tonnageLengths, lengths, heights, breadths}
 use Rattle.measure.specs.Offsets.{inRange, stations, breadthsAtStation, middleOf, counted, tonnage}
 use Rattle.measure.specs.Handed.{AllAtMost, UnderDeckHanded, LevelHanded, BoxHanded, Taken, mostTons}
@@ -115,10 +117,10 @@ module _ (k : Kind) (t l : Hundredths) (hs bs : List ℕ) (one : breadthsAtStati
 
 -- "tonnage 4 (at most 100,000,000, which no entry from offsets in range can pass)"
 pub tonnage-at-most : (k : Kind) (t l : Hundredths) (hs bs : List ℕ) → Taken k t l hs bs → tonnage k t l hs bs ≤ mostTons
-unfolding tonnage
+unfolding tonnage tons nearest
 tonnage-at-most UnderDeck t l hs bs taken = under-deck-tons-le (under-deck-taken t l hs bs taken)
 tonnage-at-most BetweenDeck t l hs bs taken = level-tons-le (level-taken BetweenDeck t l hs bs refl taken (table-even t))
 tonnage-at-most Superstructure t l hs bs taken = level-tons-le (level-taken Superstructure t l hs bs refl taken (superstructure-even t l))
 tonnage-at-most Hatchway t l hs bs taken = box-tons-le (box-taken Hatchway t l hs bs refl taken)
 tonnage-at-most Room t l hs bs taken = box-tons-le (box-taken Room t l hs bs refl taken)
-tonnage-at-most NoKind t l hs bs taken = box-tons-le (box-taken NoKind t l hs bs refl taken)
+tonnage-at-most NoKind t l hs bs taken = lit≤ tt

@@ -1,9 +1,9 @@
 -- Every number of parts is even, from 2 to 16.
 use mathlib.Core.Bool.{Bool, true, false, cond}
-use Prim.Native.Nat.{ℕ, zero, suc, _+_, _*_, _≤_}
+use Prim.Native.Nat.{ℕ, zero, suc, _-_, _*_, _≤_}
 use native.Mathlib.Omega.{arith}
 use lib.Dec.{lit≤, leb, ltb, eqb}
-use Rattle.measure.specs.Parts.{EvenParts, p2, p4, p6, p8, p10, p12, p14, p16, tableParts, stepParts, underDeckParts, depthParts, distance, nearer, nearestUpTo, nearestParts, superstructureParts, partsOf}
+use Rattle.measure.specs.Parts.{EvenParts, p2, p4, p6, p8, p10, p12, p14, p16, tableParts, stepParts, underDeckParts, depthParts, distance, nearer, nearestParts, superstructureParts, partsOf}
 use Rattle.measure.specs.declared.units.Hundredths.{Hundredths}
 use Rattle.measure.specs.declared.kinds.Kind.{Kind}
 use Rattle.measure.specs.declared.kinds.Kind.the-variants.{UnderDeck, BetweenDeck, Superstructure, Hatchway, Room, NoKind}
@@ -62,7 +62,7 @@ nearer-even t n l b k p q = chosen EvenParts (leb (distance t n l k * b) (distan
 pub nearest-even : (t : Hundredths) (n : ℕ) (l : Hundredths) → EvenParts (nearestParts t n l)
 unfolding nearestParts
 nearest-even t n l =
-    next (next (next (next (next (next (next p2 p4) p6) p8) p10) p12) p14) p16
+    next p2 (next p4 (next p6 (next p8 (next p10 (next p12 (next p14 p16))))))
   where
     next : {b k : ℕ} → EvenParts b → EvenParts k → EvenParts (nearer t n l b k)
     next {b} {k} p q = nearer-even t n l b k p q
@@ -71,13 +71,18 @@ pub superstructure-even : (t l : Hundredths) → EvenParts (superstructureParts 
 unfolding superstructureParts
 superstructure-even t l = nearest-even t (tableParts t) l
 
-pub nearest-up-to-le : (t : Hundredths) (n : ℕ) (l : Hundredths) (j : ℕ) → nearestUpTo t n l j ≤ 2 * j + 2
+-- the nearest of the last i + 1 even numbers: of all of them, where i is 7, it is `nearestParts`
+abbrev pub nearestOfLast : Hundredths → ℕ → Hundredths → ℕ → ℕ
+nearestOfLast t n l zero = 16
+nearestOfLast t n l (suc i) = nearer t n l (14 - 2 * i) (nearestOfLast t n l i)
+
+pub nearest-of-last-le : (t : Hundredths) (n : ℕ) (l : Hundredths) (i : ℕ) → nearestOfLast t n l i ≤ 16
 unfolding nearer
-nearest-up-to-le t n l zero = lit≤ tt
-nearest-up-to-le t n l (suc j) =
-    let b = nearestUpTo t n l j in
-    let h = nearest-up-to-le t n l j in
-    chosen (λ x. x ≤ 2 * suc j + 2) (leb (distance t n l (2 * j + 4) * b) (distance t n l b * (2 * j + 4))) (omega arith) (omega arith)
+nearest-of-last-le t n l zero = lit≤ tt
+nearest-of-last-le t n l (suc i) =
+    let b = nearestOfLast t n l i in
+    let k = 14 - 2 * i in
+    chosen (λ x. x ≤ 16) (leb (distance t n l b * k) (distance t n l k * b)) (nearest-of-last-le t n l i) (omega arith)
 
 pub parts-most : (k : Kind) (t l : Hundredths) → partsOf k t l ≤ 16
 parts-most UnderDeck t l = most (under-deck-even t l)

@@ -40,7 +40,7 @@ areas-step m i at ds bs h =
     ap (λ (l : List ℕ). areas m l (drop at bs)) (drop-step ds i h)
     ∙ ap (λ (l : List ℕ). stationArea m (hundredths (getD ds i 0)) (take (m + 1) (drop at bs)) ∷ areas m (drop (i + 1) ds) l) (drop-drop (m + 1) at bs)
 
-length-areas : (m : ℕ) (ds bs : List ℕ) → length (areas m ds bs) ≡ length ds
+pub length-areas : (m : ℕ) (ds bs : List ℕ) → length (areas m ds bs) ≡ length ds
 length-areas m [] bs = refl
 length-areas m (d ∷ ds) bs = ap suc (length-areas m ds (drop (m + 1) bs))
 

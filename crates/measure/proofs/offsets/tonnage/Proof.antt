@@ -1,9 +1,10 @@
 -- `offsets::tonnage` meets its contract: what is taken is what each kind's function asks.
 use Prim.Native.Nat.{ℕ}
 use mathlib.Core.Path.{refl, ap, _∙_}
+use Rattle.measure.specs.Rounding.{nearest}
 use Rattle.measure.specs.Volumes.{tons, levelVolume}
 use Rattle.measure.specs.Offsets.{tonnage}
-use Rattle.measure.specs.declared.kinds.Kind.the-variants.{BetweenDeck, Superstructure, Hatchway, Room, NoKind}
+use Rattle.measure.specs.declared.kinds.Kind.the-variants.{BetweenDeck, Superstructure, Hatchway, Room}
 use Rattle.measure.proofs.laws.Parts.{table-even, superstructure-even}
 use Rattle.measure.proofs.laws.Offsets.{level-taken, box-taken}
 use borrow.Author.Needs.{needs}
@@ -63,12 +64,6 @@ box-tons-requires-2 c κs =
 enum-told-6 : tie.Need-enum-told-6
 enum-told-6 c = search needs
 
-box-tons-requires-3 : tie.Need-box-tons-requires-3
-box-tons-requires-3 c κs =
-    let s = c .before .before .before .before in
-    let taken = rw (c .enum-told6 .given .1) at (s .pre) in
-    box-taken NoKind (s .args .tonnage-length) (s .args .length) (s .args .heights .now) (s .args .breadths .now) refl taken
-
 returns : tie.Need-returns
 returns c = rw (c .before .enum-told .given .1) (c .under-deck .ensures)
 
@@ -95,8 +90,8 @@ unfolding tonnage
 returns-5 c = rw (c .before .enum-told5 .given .1) (c .box-tons2 .ensures)
 
 returns-6 : tie.Need-returns-6
-unfolding tonnage
-returns-6 c = rw (c .before .enum-told6 .given .1) (c .box-tons3 .ensures)
+unfolding tonnage tons nearest
+returns-6 c = rw (c .enum-told6 .given .1)
 
 pub tonnage-spec : {M : Type 1} → statement M
 tonnage-spec =
@@ -115,7 +110,6 @@ tonnage-spec =
     enum-told-5
     box-tons-requires-2
     enum-told-6
-    box-tons-requires-3
     returns
     returns-2
     returns-3

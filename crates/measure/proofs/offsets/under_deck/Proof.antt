@@ -1,14 +1,23 @@
 -- `offsets::under_deck` meets its contract: what is taken is what a U asks.
 use Prim.Native.Nat.{ℕ}
-use mathlib.Core.Path.{ap₂, _∙_}
+use mathlib.Core.Path.{_≡_}
+use mathlib.Core.List.{List}
+use Rattle.measure.specs.Parts.{underDeckParts, depthParts}
 use Rattle.measure.specs.Volumes.{tons, underDeckVolume}
 use Rattle.measure.specs.Offsets.{middleOf, tonnage}
+use Rattle.measure.specs.declared.units.Hundredths.{Hundredths}
 use Rattle.measure.specs.declared.kinds.Kind.the-variants.{UnderDeck}
 use Rattle.measure.proofs.laws.Offsets.{taken-stations, under-deck-taken}
 use borrow.Author.Needs.{needs}
 use native.Mathlib.Omega.{arith}
 use Rattle.measure.proofs.offsets.under_deck.Statement.{statement}
 use Rattle.measure.proofs.offsets.under_deck.Tie as tie
+
+-- the tonnage with the two numbers of parts found
+by-parts : (t l : Hundredths) (hs bs : List ℕ) {n m r : ℕ} → n ≡ underDeckParts t l → m ≡ depthParts (middleOf hs)
+    → r ≡ tons (underDeckVolume l n m hs bs) → r ≡ tonnage UnderDeck t l hs bs
+unfolding tonnage
+by-parts t l hs bs parts depth-parts e = rw (parts, depth-parts) at e
 
 of-under-deck-requires : tie.Need-of-under-deck-requires
 of-under-deck-requires c κs = search needs
@@ -32,11 +41,10 @@ under-deck-tons-requires c κs =
     (under-deck-taken (s .args .tonnage-length) (s .args .length) (s .args .depths .now) (s .args .breadths .now) (s .pre))
 
 returns : tie.Need-returns
-unfolding tonnage middleOf
+unfolding middleOf
 returns c =
     let s = c .before .before .before .before .before .before in
-    c .under-deck-tons .ensures
-    ∙ ap₂ (λ (n m : ℕ). tons (underDeckVolume (s .args .length) n m (s .args .depths .now) (s .args .breadths .now))) (c .before .before .before .of-under-deck .ensures) (c .before .of-depth .ensures)
+    by-parts (s .args .tonnage-length) (s .args .length) (s .args .depths .now) (s .args .breadths .now) (c .before .before .before .of-under-deck .ensures) (c .before .of-depth .ensures) (c .under-deck-tons .ensures)
 
 pub under-deck-spec : {M : Type 1} → statement M
 under-deck-spec =

@@ -4,7 +4,6 @@ use mathlib.Core.Path.{ap, _∙_}
 use Rattle.measure.specs.Parts.{superstructureParts, nearestParts}
 use Rattle.measure.proofs.laws.Parts.{table-even, most}
 use borrow.Author.Needs.{needs}
-use native.Mathlib.Omega.{arith}
 use Rattle.measure.proofs.parts.of_superstructure.Statement.{statement}
 use Rattle.measure.proofs.parts.of_superstructure.Tie as tie
 
@@ -12,7 +11,7 @@ by-table-requires : tie.Need-by-table-requires
 by-table-requires c κs = search needs
 
 nearest-parts-requires : tie.Need-nearest-parts-requires
-nearest-parts-requires c κs = omega (arith, most (table-even (c .before .args .tonnage-length)))
+nearest-parts-requires c κs = rw (c .by-table .ensures) (most (table-even _))
 
 returns : tie.Need-returns
 unfolding superstructureParts
