@@ -177,6 +177,9 @@ fummidrake_written fummidrake_write(fummidrake_sheet sheet, uint8_t justified, u
  * Refused, with a sheet not open, mark 0 and start 0, with 16, 17, 13, 14, 18. */
 fummidrake_reading fummidrake_read(const uint8_t *file, size_t file_bytes);
 
+/* Reads the sheet before the start of another in the same file, by the same rules; its own start counts from the file's first byte. */
+fummidrake_reading fummidrake_read_before(const uint8_t *file, size_t file_bytes, size_t start);
+
 /* Lists the last sheet of a file: its tonnage length, a line a space, gross and net; or REFUSED, the number and the position. */
 fummidrake_listing fummidrake_list(const uint8_t *file, size_t file_bytes);
 

@@ -43,7 +43,7 @@ use Rattle.sheet.specs.declared.calls.Counted.{Counted}
 use Rattle.sheet.specs.declared.calls.Reported.{Reported}
 use Rattle.sheet.specs.declared.resume.Resumed.{Resumed}
 use Rattle.dayfile.specs.Writing.{written, writtenInto}
-use Rattle.dayfile.specs.Reading.{readOf}
+use Rattle.dayfile.specs.Reading.{readOf, readBefore}
 use Rattle.dayfile.specs.declared.writing.Written.{Written}
 use Rattle.dayfile.specs.declared.reading.Reading.{Reading}
 use Rattle.listing.specs.Listing.{listed}
@@ -112,6 +112,7 @@ pub data Public : Type 0 → Type 0 → Type 1 where
   places : Public Sheet (List Space)
   -- dayfile
   read : Public (List ℕ) Reading
+  read-before : Public (List ℕ × ℕ) Reading
   part-from : Public (List ℕ × ℕ) (List ℕ)
   part-before : Public (List ℕ × ℕ) (List ℕ)
   write : Public (Sheet × ℕ × List ℕ × ℕ) (Written × List ℕ)
@@ -175,6 +176,7 @@ promised standing-count s = standingCount s
 promised space-at (s, place) = spaceAt s place
 promised places s = placesOf s
 promised read file = readOf file
+promised read-before (file, start) = readBefore file start
 promised part-from (file, start) = drop start file
 promised part-before (file, start) = take start file
 promised write (s, justified, buffer, at) = (written s justified (length buffer) at, writtenInto s justified at buffer)
