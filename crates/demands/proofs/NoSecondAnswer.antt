@@ -8,13 +8,14 @@ use mathlib.Core.Bool.{Bool, false}
 use mathlib.Core.List.{List, []}
 use lib.ListN.{length, take, drop}
 use Rattle.script.specs.Laid.{fitting, laid}
-use Rattle.script.specs.Words.{partEnd, marksIn, wordAt, sameText, numberOf, valueIn, idOf, codeOf, measureOf, sizeOf, isEmptyList, measuresOf}
+use Rattle.script.specs.Text.{roomForScript}
+use Rattle.script.specs.Words.{first, marksIn, wordAt, sameText, numberOf, valueIn, idOf, codeOf, measureOf, sizeOf, isEmptyList, measuresOf}
 use Rattle.script.specs.Hex.{isHex, bytesOf, hexFitting}
-use Rattle.script.specs.Calls.{callNamed, judged}
+use Rattle.script.specs.Remarks.{remarkText}
+use Rattle.script.specs.Calls.{surveyForms, figuresForms, lineBy}
 use Rattle.script.specs.declared.words.Number.{Number}
-use Rattle.script.specs.declared.calls.Call.{Call}
-use Rattle.script.specs.declared.calls.Named.{Named}
-use Rattle.script.specs.declared.calls.Judged.{Judged}
+use Rattle.script.specs.declared.remarks.Remark.{Remark}
+use Rattle.script.specs.declared.calls.Line.{Line}
 use Rattle.measure.specs.Kinds.{kindOf}
 use Rattle.measure.specs.Thirds.{divided as dividedOf}
 use Rattle.measure.specs.Ranges.{within, tonnageLengths, lengths}
@@ -53,7 +54,8 @@ use Rattle.listing.specs.declared.listing.Listing.{Listing}
 -- answer of `write` is its value and the whole buffer after it, and so with what lays into an array.
 pub data Public : Type 0 → Type 0 → Type 1 where
   -- script
-  part-end : Public (List ℕ × ℕ × ℕ) ℕ
+  script-buffer : Public (Unit {0}) (List ℕ)
+  part-at : Public (List ℕ × ℕ × ℕ) (List ℕ)
   marks : Public (List ℕ × ℕ) ℕ
   word : Public (List ℕ × ℕ) (List ℕ)
   same : Public (List ℕ × List ℕ) Bool
@@ -68,8 +70,9 @@ pub data Public : Type 0 → Type 0 → Type 1 where
   is-hex : Public (List ℕ) Bool
   bytes : Public (List ℕ × List ℕ) (ℕ × List ℕ)
   digits : Public (List ℕ × List ℕ) (ℕ × List ℕ)
-  call-named : Public (List ℕ) Named
-  judge : Public (List ℕ × Call) Judged
+  survey-line : Public (List ℕ) Line
+  figures-line : Public (List ℕ) Line
+  remark-text : Public (Remark × List ℕ) (ℕ × List ℕ)
   -- measure
   kind-of : Public ℕ Kind
   divided : Public (Kind × Hundredths × Hundredths) Division
@@ -121,7 +124,8 @@ pub data Public : Type 0 → Type 0 → Type 1 where
 
 -- what each promises
 unfoldable pub promised : {Given Answer : Type 0} → Public Given Answer → Given → Answer
-promised part-end (text, at, byte) = partEnd byte at text
+promised script-buffer none = roomForScript
+promised part-at (text, at, byte) = first byte (drop at text)
 promised marks (text, byte) = marksIn byte text
 promised word (line, place) = wordAt place line
 promised same (a, b) = sameText a b
@@ -136,8 +140,9 @@ promised measures (text, into) = (fitting (measuresOf text) into, laid (measures
 promised is-hex text = isHex text
 promised bytes (text, into) = (fitting (bytesOf text) into, laid (bytesOf text) into)
 promised digits (file, into) = (fitting (hexFitting file into) into, laid (hexFitting file into) into)
-promised call-named text = callNamed text
-promised judge (line, call) = judged line call
+promised survey-line line = lineBy surveyForms line
+promised figures-line line = lineBy figuresForms line
+promised remark-text (remark, into) = (fitting (remarkText remark) into, laid (remarkText remark) into)
 promised kind-of code = kindOf code
 promised divided (kind, t, l) = dividedOf kind t l
 promised stations (kind, t, l) = stationsOf kind t l
