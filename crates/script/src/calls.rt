@@ -36,18 +36,18 @@ pub fn survey_line(line: &[u8]) -> Line
 {
     line_by(
         b"open number\n\
-enter number number number number number list list\n\
-withdraw number\n\
-mark number number\n\
-undo\n\
-redo\n\
-counts\n\
-report number\n\
-write number number size\n\
-writef number number size fill\n\
-read hex\n\
-before number hex\n\
-spaces",
+          enter number number number number number list list\n\
+          withdraw number\n\
+          mark number number\n\
+          undo\n\
+          redo\n\
+          counts\n\
+          report number\n\
+          write number number size\n\
+          writef number number size fill\n\
+          read hex\n\
+          before number hex\n\
+          spaces",
         line,
     )
 }
@@ -58,8 +58,8 @@ pub fn figures_line(line: &[u8]) -> Line
 {
     line_by(
         b"space number number number list list\n\
-hatchways number number\n\
-ballast number number",
+          hatchways number number\n\
+          ballast number number",
         line,
     )
 }

@@ -25,15 +25,15 @@ pub fn remark_text(remark: Remark, into: &mut [u8]) -> usize
     let place = remark_place(remark);
     let text = words::part(
         b"? unknown call\n\
-? wrong number of words\n\
-? not a number\n\
-? number too large\n\
-? list too long\n\
-? buffer too large\n\
-? not a byte\n\
-? file too long\n\
-? not hex\n\
-? script too long",
+          ? wrong number of words\n\
+          ? not a number\n\
+          ? number too large\n\
+          ? list too long\n\
+          ? buffer too large\n\
+          ? not a byte\n\
+          ? file too long\n\
+          ? not hex\n\
+          ? script too long",
         place,
         b'\n',
     );
