@@ -22,7 +22,7 @@ pub fn enter(entry: Entry, heights: Vec<u32>, breadths: Vec<u32>) -> Box<dyn Cal
     let [first, second, third] = [(); 3].map(|()| offsets.clone());
     on_each(
         name,
-        move |sheet, _| sheet.enter(entry, &first.0, &first.1),
+        move |sheet, _| sheet.clone().enter(entry, &first.0, &first.1),
         move |sheet, _| by_value::enter(*sheet, same, &second.0, &second.1),
         move |sheet, _| sheet.enter(same, &third.0, &third.1),
     )
@@ -31,7 +31,7 @@ pub fn enter(entry: Entry, heights: Vec<u32>, breadths: Vec<u32>) -> Box<dyn Cal
 pub fn withdraw(id: u16) -> Box<dyn Call> {
     on_each(
         format!("withdraw {id}"),
-        move |sheet, _| sheet.withdraw(id),
+        move |sheet, _| sheet.clone().withdraw(id),
         move |sheet, _| by_value::withdraw(*sheet, id),
         move |sheet, _| sheet.withdraw(id),
     )
@@ -40,28 +40,43 @@ pub fn withdraw(id: u16) -> Box<dyn Call> {
 pub fn mark(id: u16, standing: u8) -> Box<dyn Call> {
     on_each(
         format!("mark {id} {standing}"),
-        move |sheet, _| sheet.mark(id, standing),
+        move |sheet, _| sheet.clone().mark(id, standing),
         move |sheet, _| by_value::mark(*sheet, id, standing),
         move |sheet, _| sheet.mark(id, standing),
     )
 }
 
 pub fn undo() -> Box<dyn Call> {
-    on_each("undo".into(), |sheet, _| sheet.undo(), |sheet, _| by_value::undo(*sheet), |sheet, _| sheet.undo())
+    on_each(
+        "undo".into(),
+        |sheet, _| sheet.clone().undo(),
+        |sheet, _| by_value::undo(*sheet),
+        |sheet, _| sheet.undo(),
+    )
 }
 
 pub fn redo() -> Box<dyn Call> {
-    on_each("redo".into(), |sheet, _| sheet.redo(), |sheet, _| by_value::redo(*sheet), |sheet, _| sheet.redo())
+    on_each(
+        "redo".into(),
+        |sheet, _| sheet.clone().redo(),
+        |sheet, _| by_value::redo(*sheet),
+        |sheet, _| sheet.redo(),
+    )
 }
 
 pub fn counts() -> Box<dyn Call> {
-    on_each("counts".into(), |sheet, _| sheet.counts(), |sheet, _| by_value::counts(*sheet), |sheet, _| sheet.counts())
+    on_each(
+        "counts".into(),
+        |sheet, _| sheet.clone().counts(),
+        |sheet, _| by_value::counts(*sheet),
+        |sheet, _| sheet.counts(),
+    )
 }
 
 pub fn report(justified: u8) -> Box<dyn Call> {
     on_each(
         format!("report {justified}"),
-        move |sheet, _| sheet.report(justified),
+        move |sheet, _| sheet.clone().report(justified),
         move |sheet, _| by_value::report(*sheet, justified),
         move |sheet, _| sheet.report(justified),
     )
@@ -71,7 +86,7 @@ pub fn report(justified: u8) -> Box<dyn Call> {
 pub fn write(justified: u8, at: usize) -> Box<dyn Call> {
     on_each(
         format!("write {justified} {at}"),
-        move |sheet, buffer| sheet.write(justified, buffer, at),
+        move |sheet, buffer| sheet.clone().write(justified, buffer, at),
         move |sheet, buffer| by_value::write(*sheet, justified, buffer, at),
         move |sheet, buffer| sheet.write(justified, buffer, at),
     )

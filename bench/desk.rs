@@ -150,7 +150,7 @@ fn same<T: PartialEq + Debug>(what: &str, [proved, by_value, in_place]: [T; 3]) 
 
 impl Sheet for proved::Sheet {
     fn outline(&self) -> Outline {
-        let proved::Counted { undoable, redoable, .. } = self.counts();
+        let proved::Counted { undoable, redoable, .. } = self.clone().counts();
         let (open, length, standing) = (self.is_open(), self.tonnage_length(), self.standing_count());
         Outline { open, length, standing, undoable, redoable }
     }

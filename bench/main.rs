@@ -8,7 +8,7 @@ mod calls;
 mod cases;
 mod desk;
 #[allow(dead_code)]
-#[path = "../examples/rust/fummidrake.rs"]
+#[path = "../rust/fummidrake.rs"]
 mod fummidrake;
 mod plain;
 mod random;

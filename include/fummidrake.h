@@ -2,8 +2,12 @@
  *
  * Every call takes any numbers and any sheet, ends, and answers what its promise in crates/fummidrake/src/lib.rt says; nothing
  * has to be checked first, but that a pointer is not null and has as many numbers or bytes behind it as are said. A sheet goes in
- * by value and comes back with the answer. Its fields are for the calls alone: a sheet comes from fummidrake_open,
- * fummidrake_read or a call, and one that is all zeros is not open.
+ * by value and comes back with the answer; the calls that end in _on, at the end of this file, change the caller's sheet in place.
+ * A sheet's fields are for the calls alone: a sheet comes from fummidrake_open, fummidrake_read or a call, and one that is all zeros
+ * is not open.
+ *
+ * The archive is for x86-64 and wants memcpy, memmove and memset, nothing else: no other call of a C library, no heap, no input or
+ * output. How much stack a call takes stands below, beside FUMMIDRAKE_STACK.
  *
  * Lengths, heights and breadths are in hundredths of a foot, tonnages in hundredths of a ton.
  * Kinds: 1 U under-deck part, 2 B between-deck level, 3 S superstructure, 4 H hatchway, 5 R room.
@@ -38,6 +42,37 @@
 #include <stdbool.h>
 #include <stddef.h>
 #include <stdint.h>
+
+#define FUMMIDRAKE_VERSION "0.1.0"
+
+/* The stack that a call takes in either form, in bytes, with the sheet that goes in and the answer that comes back: at most so many,
+ * measured with a full sheet of 200 spaces, eight deep, and 64 changes (tools/stack.c). The first is the greatest of them. */
+#define FUMMIDRAKE_STACK FUMMIDRAKE_STACK_LIST
+#define FUMMIDRAKE_STACK_OPEN 8000
+#define FUMMIDRAKE_STACK_ENTER 45000
+#define FUMMIDRAKE_STACK_WITHDRAW 20000
+#define FUMMIDRAKE_STACK_MARK 68000
+#define FUMMIDRAKE_STACK_UNDO 20000
+#define FUMMIDRAKE_STACK_REDO 19000
+#define FUMMIDRAKE_STACK_COUNTS 12000
+#define FUMMIDRAKE_STACK_REPORT 26000
+#define FUMMIDRAKE_STACK_IS_OPEN 6000
+#define FUMMIDRAKE_STACK_TONNAGE_LENGTH 6000
+#define FUMMIDRAKE_STACK_STANDING_COUNT 6000
+#define FUMMIDRAKE_STACK_SPACE_AT 9000
+#define FUMMIDRAKE_STACK_STATIONS 1000
+#define FUMMIDRAKE_STACK_BREADTHS_AT_STATION 1000
+#define FUMMIDRAKE_STACK_WRITE 30000
+#define FUMMIDRAKE_STACK_READ 66000
+#define FUMMIDRAKE_STACK_READ_BEFORE 66000
+#define FUMMIDRAKE_STACK_LIST 89000
+
+/* Has the compiler warn where an answer is dropped, if it can: a sheet that is not kept is lost, and a refusal not looked at. */
+#if defined(__GNUC__)
+#define FUMMIDRAKE_MUST_USE __attribute__((warn_unused_result))
+#else
+#define FUMMIDRAKE_MUST_USE
+#endif
 
 #ifdef __cplusplus
 extern "C" {
@@ -125,63 +160,239 @@ typedef struct {
     size_t size;
 } fummidrake_listing;
 
+/* The structs lie in memory as the calls hand them over: each field's first byte, and the size. */
+#if defined(__cplusplus) && __cplusplus >= 201103L
+#define FUMMIDRAKE_HOLDS(fact) static_assert(fact, #fact)
+#elif !defined(__cplusplus) && defined(__STDC_VERSION__) && __STDC_VERSION__ >= 201112L
+#define FUMMIDRAKE_HOLDS(fact) _Static_assert(fact, #fact)
+#endif
+#ifdef FUMMIDRAKE_HOLDS
+#define FUMMIDRAKE_FIELD(type, field, byte) FUMMIDRAKE_HOLDS(offsetof(type, field) == byte)
+#define FUMMIDRAKE_SIZE(type, bytes) FUMMIDRAKE_HOLDS(sizeof(type) == bytes)
+FUMMIDRAKE_FIELD(fummidrake_space, id, 0);
+FUMMIDRAKE_FIELD(fummidrake_space, within, 2);
+FUMMIDRAKE_FIELD(fummidrake_space, kind, 4);
+FUMMIDRAKE_FIELD(fummidrake_space, standing, 5);
+FUMMIDRAKE_FIELD(fummidrake_space, tonnage, 8);
+FUMMIDRAKE_FIELD(fummidrake_space, length, 12);
+FUMMIDRAKE_SIZE(fummidrake_space, 16);
+FUMMIDRAKE_FIELD(fummidrake_entry, id, 0);
+FUMMIDRAKE_FIELD(fummidrake_entry, within, 2);
+FUMMIDRAKE_FIELD(fummidrake_entry, kind, 4);
+FUMMIDRAKE_FIELD(fummidrake_entry, standing, 5);
+FUMMIDRAKE_FIELD(fummidrake_entry, length, 8);
+FUMMIDRAKE_SIZE(fummidrake_entry, 12);
+FUMMIDRAKE_FIELD(fummidrake_open_change, made, 0);
+FUMMIDRAKE_FIELD(fummidrake_open_change, before, 1);
+FUMMIDRAKE_FIELD(fummidrake_open_change, after, 2);
+FUMMIDRAKE_FIELD(fummidrake_open_change, place, 8);
+FUMMIDRAKE_FIELD(fummidrake_open_change, space, 16);
+FUMMIDRAKE_SIZE(fummidrake_open_change, 32);
+FUMMIDRAKE_FIELD(fummidrake_sheet, opened, 0);
+FUMMIDRAKE_FIELD(fummidrake_sheet, length, 4);
+FUMMIDRAKE_FIELD(fummidrake_sheet, spaces, 8);
+FUMMIDRAKE_FIELD(fummidrake_sheet, count, 3208);
+FUMMIDRAKE_FIELD(fummidrake_sheet, changes, 3216);
+FUMMIDRAKE_FIELD(fummidrake_sheet, undoable, 5264);
+FUMMIDRAKE_FIELD(fummidrake_sheet, redoable, 5272);
+FUMMIDRAKE_SIZE(fummidrake_sheet, 5280);
+FUMMIDRAKE_FIELD(fummidrake_changed, number, 0);
+FUMMIDRAKE_FIELD(fummidrake_changed, sheet, 8);
+FUMMIDRAKE_SIZE(fummidrake_changed, 5288);
+FUMMIDRAKE_FIELD(fummidrake_counted, undoable, 0);
+FUMMIDRAKE_FIELD(fummidrake_counted, redoable, 8);
+FUMMIDRAKE_FIELD(fummidrake_counted, sheet, 16);
+FUMMIDRAKE_SIZE(fummidrake_counted, 5296);
+FUMMIDRAKE_FIELD(fummidrake_reported, number, 0);
+FUMMIDRAKE_FIELD(fummidrake_reported, gross, 8);
+FUMMIDRAKE_FIELD(fummidrake_reported, net, 16);
+FUMMIDRAKE_FIELD(fummidrake_reported, sheet, 24);
+FUMMIDRAKE_SIZE(fummidrake_reported, 5304);
+FUMMIDRAKE_FIELD(fummidrake_written, number, 0);
+FUMMIDRAKE_FIELD(fummidrake_written, bytes, 8);
+FUMMIDRAKE_FIELD(fummidrake_written, sheet, 16);
+FUMMIDRAKE_SIZE(fummidrake_written, 5296);
+FUMMIDRAKE_FIELD(fummidrake_reading, number, 0);
+FUMMIDRAKE_FIELD(fummidrake_reading, position, 8);
+FUMMIDRAKE_FIELD(fummidrake_reading, sheet, 16);
+FUMMIDRAKE_FIELD(fummidrake_reading, justified, 5296);
+FUMMIDRAKE_FIELD(fummidrake_reading, start, 5304);
+FUMMIDRAKE_SIZE(fummidrake_reading, 5312);
+FUMMIDRAKE_FIELD(fummidrake_listing, text, 0);
+FUMMIDRAKE_FIELD(fummidrake_listing, size, 8192);
+FUMMIDRAKE_SIZE(fummidrake_listing, 8200);
+#undef FUMMIDRAKE_SIZE
+#undef FUMMIDRAKE_FIELD
+#undef FUMMIDRAKE_HOLDS
+#endif
+
 /* Opens a new sheet with a tonnage length; refused with 2, and a sheet not open, where it is outside its range. */
+FUMMIDRAKE_MUST_USE
 fummidrake_changed fummidrake_open(uint32_t length);
 
 /* Enters a space from its offsets: for a U the depths at the stations, and the breadths station by station from the bow, at each
  * from above; for a B or S one height and one breadth a station; for an H or R one of each. Refused with 1 to 10. */
+FUMMIDRAKE_MUST_USE
 fummidrake_changed fummidrake_enter(fummidrake_sheet sheet, fummidrake_entry entry, const uint32_t *heights, size_t heights_count,
                                     const uint32_t *breadths, size_t breadths_count);
 
 /* Strikes out the space with an id. Refused with 1, 5, 11. */
+FUMMIDRAKE_MUST_USE
 fummidrake_changed fummidrake_withdraw(fummidrake_sheet sheet, uint16_t id);
 
 /* Gives the space with an id a new standing, even the same one. Refused with 1, 2, 5, 6, 8. */
+FUMMIDRAKE_MUST_USE
 fummidrake_changed fummidrake_mark(fummidrake_sheet sheet, uint16_t id, uint8_t standing);
 
 /* Takes back the latest accepted change not undone. Refused with 1, 12. */
+FUMMIDRAKE_MUST_USE
 fummidrake_changed fummidrake_undo(fummidrake_sheet sheet);
 
 /* Makes again the change last undone. Refused with 1, 12. */
+FUMMIDRAKE_MUST_USE
 fummidrake_changed fummidrake_redo(fummidrake_sheet sheet);
 
 /* Says how many changes are undoable and redoable: 0 and 0 on a sheet not open. */
+FUMMIDRAKE_MUST_USE
 fummidrake_counted fummidrake_counts(fummidrake_sheet sheet);
 
 /* Gives gross and net; `justified` is 1 where the surveyor justifies the water ballast, else 0. Refused with 1, 2, 13, 14. */
+FUMMIDRAKE_MUST_USE
 fummidrake_reported fummidrake_report(fummidrake_sheet sheet, uint8_t justified);
 
 /* Says whether the sheet is open. */
+FUMMIDRAKE_MUST_USE
 bool fummidrake_is_open(fummidrake_sheet sheet);
 
 /* Gives the tonnage length; 0 on a sheet not open. */
+FUMMIDRAKE_MUST_USE
 uint32_t fummidrake_tonnage_length(fummidrake_sheet sheet);
 
 /* Says how many spaces stand; none on a sheet not open. */
+FUMMIDRAKE_MUST_USE
 size_t fummidrake_standing_count(fummidrake_sheet sheet);
 
 /* Gives the space at a place of the order of entry, from 0; all zeros where none stands there. */
+FUMMIDRAKE_MUST_USE
 fummidrake_space fummidrake_space_at(fummidrake_sheet sheet, size_t place);
 
 /* Says how many stations the rules ask of a space of a kind and length: one for an H or R. */
+FUMMIDRAKE_MUST_USE
 size_t fummidrake_stations(uint8_t kind, uint32_t tonnage_length, uint32_t length);
 
 /* Says how many breadths the rules ask at each station; for a U that depends on the depth at its middle station. */
+FUMMIDRAKE_MUST_USE
 size_t fummidrake_breadths_at_station(uint8_t kind, uint32_t middle);
 
 /* Writes the sheet with its justified mark into a buffer, from the byte `at` on: 16 bytes a space and 28 behind them; no byte
  * before or after is touched, and none where refused, with 1, 2, 13, 14, 15. */
+FUMMIDRAKE_MUST_USE
 fummidrake_written fummidrake_write(fummidrake_sheet sheet, uint8_t justified, uint8_t *buf, size_t buf_bytes, size_t at);
 
 /* Reads the last sheet of a file, which may be any bytes; the bytes ahead of its start are the earlier sheets, read the same way.
  * Refused, with a sheet not open, mark 0 and start 0, with 16, 17, 13, 14, 18. */
+FUMMIDRAKE_MUST_USE
 fummidrake_reading fummidrake_read(const uint8_t *file, size_t file_bytes);
 
 /* Reads the sheet before the start of another in the same file, by the same rules; its own start counts from the file's first byte. */
+FUMMIDRAKE_MUST_USE
 fummidrake_reading fummidrake_read_before(const uint8_t *file, size_t file_bytes, size_t start);
 
-/* Lists the last sheet of a file: its tonnage length, a line a space, gross and net; or REFUSED, the number and the position. */
+/* Lists the last sheet of a file: its tonnage length, a line a space, gross and net; or REFUSED, the number and the position. A file
+ * has at most 65,536 bytes here: a longer one is listed as REFUSED 16 0, whatever it holds. */
+FUMMIDRAKE_MUST_USE
 fummidrake_listing fummidrake_list(const uint8_t *file, size_t file_bytes);
+
+/* The same calls in place: each takes a pointer to the caller's sheet, replaces that sheet by the one that the call hands back (where
+ * refused, as it was), and answers what else there is. Opening and reading take no sheet, and have no such form. */
+
+/* How many changes are open. */
+typedef struct {
+    size_t undoable;
+    size_t redoable;
+} fummidrake_counted_on;
+
+/* The number, gross and net: 0 and 0 where refused. */
+typedef struct {
+    uint8_t number;
+    uint64_t gross;
+    uint64_t net;
+} fummidrake_reported_on;
+
+/* The number, and the bytes written: 0 where refused. */
+typedef struct {
+    uint8_t number;
+    size_t bytes;
+} fummidrake_written_on;
+
+/* Enters a space on the sheet, and answers the number: see fummidrake_enter. */
+FUMMIDRAKE_MUST_USE
+static inline uint8_t fummidrake_enter_on(fummidrake_sheet *sheet, fummidrake_entry entry, const uint32_t *heights,
+                                          size_t heights_count, const uint32_t *breadths, size_t breadths_count) {
+    fummidrake_changed answer = fummidrake_enter(*sheet, entry, heights, heights_count, breadths, breadths_count);
+    *sheet = answer.sheet;
+    return answer.number;
+}
+
+/* Strikes out the space with an id on the sheet, and answers the number: see fummidrake_withdraw. */
+FUMMIDRAKE_MUST_USE
+static inline uint8_t fummidrake_withdraw_on(fummidrake_sheet *sheet, uint16_t id) {
+    fummidrake_changed answer = fummidrake_withdraw(*sheet, id);
+    *sheet = answer.sheet;
+    return answer.number;
+}
+
+/* Gives the space with an id on the sheet a new standing, and answers the number: see fummidrake_mark. */
+FUMMIDRAKE_MUST_USE
+static inline uint8_t fummidrake_mark_on(fummidrake_sheet *sheet, uint16_t id, uint8_t standing) {
+    fummidrake_changed answer = fummidrake_mark(*sheet, id, standing);
+    *sheet = answer.sheet;
+    return answer.number;
+}
+
+/* Takes back the latest accepted change on the sheet not undone, and answers the number: see fummidrake_undo. */
+FUMMIDRAKE_MUST_USE
+static inline uint8_t fummidrake_undo_on(fummidrake_sheet *sheet) {
+    fummidrake_changed answer = fummidrake_undo(*sheet);
+    *sheet = answer.sheet;
+    return answer.number;
+}
+
+/* Makes the change on the sheet last undone again, and answers the number: see fummidrake_redo. */
+FUMMIDRAKE_MUST_USE
+static inline uint8_t fummidrake_redo_on(fummidrake_sheet *sheet) {
+    fummidrake_changed answer = fummidrake_redo(*sheet);
+    *sheet = answer.sheet;
+    return answer.number;
+}
+
+/* Says how many changes on the sheet are undoable and redoable, which it leaves as it was: see fummidrake_counts. */
+FUMMIDRAKE_MUST_USE
+static inline fummidrake_counted_on fummidrake_counts_on(fummidrake_sheet *sheet) {
+    fummidrake_counted answer = fummidrake_counts(*sheet);
+    fummidrake_counted_on values = {answer.undoable, answer.redoable};
+    *sheet = answer.sheet;
+    return values;
+}
+
+/* Gives gross and net of the sheet, which it leaves as it was: see fummidrake_report. */
+FUMMIDRAKE_MUST_USE
+static inline fummidrake_reported_on fummidrake_report_on(fummidrake_sheet *sheet, uint8_t justified) {
+    fummidrake_reported answer = fummidrake_report(*sheet, justified);
+    fummidrake_reported_on values = {answer.number, answer.gross, answer.net};
+    *sheet = answer.sheet;
+    return values;
+}
+
+/* Writes the sheet, which it leaves as it was, into a buffer from the byte `at` on: see fummidrake_write. */
+FUMMIDRAKE_MUST_USE
+static inline fummidrake_written_on fummidrake_write_on(fummidrake_sheet *sheet, uint8_t justified, uint8_t *buf, size_t buf_bytes,
+                                                        size_t at) {
+    fummidrake_written answer = fummidrake_write(*sheet, justified, buf, buf_bytes, at);
+    fummidrake_written_on values = {answer.number, answer.bytes};
+    *sheet = answer.sheet;
+    return values;
+}
 
 #ifdef __cplusplus
 }

@@ -1,5 +1,6 @@
 /* What nothing proves across the boundary to C, tried: that the header's fields are the source's, that the calls stay inside a
- * pointer and its length, and that any bytes are a sheet. Prints nothing, or the first fault.
+ * pointer and its length, that any bytes are a sheet, and that a call in place does what the same call by value does. Prints nothing,
+ * or the first fault.
  *
  * Run at the root of the project, after `rt staticlib fummidrake`: see `make test`. */
 #define _DEFAULT_SOURCE
@@ -70,6 +71,21 @@ static bool same_space(fummidrake_space a, fummidrake_space b) {
            a.length == b.length;
 }
 
+static bool same_change(fummidrake_open_change a, fummidrake_open_change b) {
+    return a.made == b.made && a.before == b.before && a.after == b.after && a.place == b.place && same_space(a.space, b.space);
+}
+
+/* The same in every field, free places too; what lies between fields isn't compared. */
+static bool same_sheet(const fummidrake_sheet *a, const fummidrake_sheet *b) {
+    bool same = a->opened == b->opened && a->length == b->length && a->count == b->count && a->undoable == b->undoable &&
+                a->redoable == b->redoable;
+    for (size_t i = 0; i < 200; i++)
+        same = same && same_space(a->spaces[i], b->spaces[i]);
+    for (size_t i = 0; i < 64; i++)
+        same = same && same_change(a->changes[i], b->changes[i]);
+    return same;
+}
+
 /* The fields of a sheet as the header has them are what the calls say of it. */
 static void fields(void) {
     fummidrake_sheet sheet = fummidrake_mark(three_spaces(), 2, 3).sheet;
@@ -123,8 +139,74 @@ static void buffers(void) {
         memcpy(file, before, part);
         fummidrake_reading reading = fummidrake_read(file, part);
         HOLDS(!fits || part != at + 76 || (reading.number == 0 && reading.start == at));
+        fummidrake_reading again = fummidrake_read_before(file, part, part + any(3));
+        HOLDS(again.number == reading.number && again.position == reading.position && again.start == reading.start);
+        HOLDS(fummidrake_read_before(file, part, any(28)).number == 16);
         HOLDS((fummidrake_list(file, part).text[0] == 'R') == (reading.number != 0));
     }
+}
+
+/* The last sheet of a file of 65,536 bytes is listed; of a byte more it is read, and the listing is a refusal. */
+static void longest(void) {
+    static uint8_t file[65537];
+    size_t at = sizeof file - 76;
+    HOLDS(fummidrake_write(three_spaces(), 0, file, sizeof file, at).number == 0);
+    HOLDS(fummidrake_read(file, sizeof file).number == 0 && fummidrake_read(file, sizeof file).start == at);
+    HOLDS(memcmp(fummidrake_list(file + 1, sizeof file - 1).text, "LENGTH 48.00\n", 13) == 0);
+    fummidrake_listing refused = fummidrake_list(file, sizeof file);
+    HOLDS(refused.size == 13 && memcmp(refused.text, "REFUSED 16 0\n", 13) == 0);
+}
+
+/* A call in place answers the number of the same call by value, and leaves the sheet that that one hands back. */
+static void same_in_place(uint8_t number, fummidrake_sheet left, fummidrake_changed answer) {
+    HOLDS(number == answer.number && same_sheet(&left, &answer.sheet));
+}
+
+static void changes_in_place(fummidrake_sheet sheet, fummidrake_entry entry, uint8_t standing) {
+    uint32_t ten = 1000;
+    fummidrake_sheet left = sheet;
+    uint8_t number = fummidrake_enter_on(&left, entry, &ten, 1, &ten, 1);
+    same_in_place(number, left, fummidrake_enter(sheet, entry, &ten, 1, &ten, 1));
+    left = sheet;
+    number = fummidrake_withdraw_on(&left, entry.id);
+    same_in_place(number, left, fummidrake_withdraw(sheet, entry.id));
+    left = sheet;
+    number = fummidrake_mark_on(&left, entry.id, standing);
+    same_in_place(number, left, fummidrake_mark(sheet, entry.id, standing));
+    left = sheet;
+    number = fummidrake_undo_on(&left);
+    same_in_place(number, left, fummidrake_undo(sheet));
+    left = sheet;
+    number = fummidrake_redo_on(&left);
+    same_in_place(number, left, fummidrake_redo(sheet));
+}
+
+/* The calls that change no sheet: the one behind the pointer is as it was. */
+static void looks_in_place(fummidrake_sheet sheet, uint8_t justified, size_t at) {
+    uint8_t here[4096] = {0}, there[4096] = {0};
+    fummidrake_sheet left = sheet;
+    fummidrake_counted_on counts = fummidrake_counts_on(&left);
+    fummidrake_counted counted = fummidrake_counts(sheet);
+    HOLDS(counts.undoable == counted.undoable && counts.redoable == counted.redoable);
+    fummidrake_reported_on report = fummidrake_report_on(&left, justified);
+    fummidrake_reported reported = fummidrake_report(sheet, justified);
+    HOLDS(report.number == reported.number && report.gross == reported.gross && report.net == reported.net);
+    fummidrake_written_on write = fummidrake_write_on(&left, justified, here, sizeof here, at);
+    fummidrake_written written = fummidrake_write(sheet, justified, there, sizeof there, at);
+    HOLDS(write.number == written.number && write.bytes == written.bytes && memcmp(here, there, sizeof here) == 0);
+    HOLDS(same_sheet(&left, &sheet) && same_sheet(&counted.sheet, &sheet) && same_sheet(&reported.sheet, &sheet) &&
+          same_sheet(&written.sheet, &sheet));
+}
+
+/* On sheets that calls reach: each call is accepted on one of them. */
+static void in_place(void) {
+    fummidrake_sheet sheet = three_spaces();
+    looks_in_place(sheet, 0, 0);
+    changes_in_place(sheet, (fummidrake_entry){4, 1, 5, 0, 1000}, 0);
+    changes_in_place(sheet, (fummidrake_entry){3, 0, 4, 0, 1000}, 0);
+    HOLDS(fummidrake_mark_on(&sheet, 2, 3) == 0 && fummidrake_withdraw_on(&sheet, 3) == 0 && fummidrake_undo_on(&sheet) == 0);
+    looks_in_place(sheet, 1, 0);
+    changes_in_place(sheet, (fummidrake_entry){2, 0, 4, 0, 1000}, 1);
 }
 
 /* Every call on a sheet, whatever its bytes are: it ends, and one that isn't open is refused with 1. */
@@ -145,6 +227,8 @@ static void every_call(fummidrake_sheet sheet) {
         HOLDS(unopened ? numbers[i] == 1 : numbers[i] <= 15 && numbers[i] != 1);
     HOLDS(fummidrake_standing_count(sheet) <= 200 && fummidrake_counts(sheet).undoable <= 64);
     HOLDS(same_space(fummidrake_space_at(sheet, fummidrake_standing_count(sheet)), (fummidrake_space){0}));
+    changes_in_place(sheet, (fummidrake_entry){id, 1, 5, 0, 500}, (uint8_t)any(5));
+    looks_in_place(sheet, justified, any(4200));
 }
 
 static void any_bytes(void) {
@@ -168,8 +252,10 @@ static void any_bytes(void) {
 
 int main(void) {
     fields();
+    in_place();
     lists();
     buffers();
+    longest();
     any_bytes();
     return 0;
 }

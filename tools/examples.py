@@ -21,13 +21,13 @@ SECTIONS = {
     'Call it from C': (
         'calls.c',
         '#include "fummidrake.h"\nint main(void) {\nLINES    return HELD ? 0 : 1;\n}\n',
-        'gcc -Iinclude target/calls.c target/staticlib/libfummidrake.a -o target/calls && target/calls',
+        'gcc -Wall -Wextra -Werror -Iinclude target/calls.c target/staticlib/libfummidrake.a -o target/calls && target/calls',
     ),
     'Call it from Rust': (
         'calls.rs',
-        '#[path = "../examples/rust/fummidrake.rs"]\n#[allow(dead_code)]\nmod fummidrake;\nuse fummidrake::*;\n'
+        '#[path = "../rust/fummidrake.rs"]\n#[allow(dead_code)]\nmod fummidrake;\nuse fummidrake::*;\n'
         'fn main() {\nLINES    assert!(HELD);\n}\n',
-        'rustc --edition 2021 -L target/staticlib -l static=fummidrake target/calls.rs -o target/calls && target/calls',
+        'rustc --edition 2021 -D warnings -L target/staticlib -l static=fummidrake target/calls.rs -o target/calls && target/calls',
     ),
 }
 
@@ -42,10 +42,10 @@ def lines_of(section: str) -> list[str]:
 
 
 def try_code(section: str) -> None:
-    """Runs a section's few lines: each `x.number is N` that they say must hold."""
+    """Runs a section's few lines: each `x is N` and `x.number is N` that they say must hold."""
     name, program, build = SECTIONS[section]
     code = CODE.search(text_of(section))[1]
-    said = re.findall(r'(\w+\.number) is (\d+)', code)
+    said = re.findall(r'(\w+(?:\.number)?) is (\d+)', code)
     assert said, f'{section}: nothing is said of a number'
     held = ' && '.join(f'{number} == {n}' for number, n in said)
     Path('target', name).write_text(program.replace('LINES', code).replace('HELD', held))

@@ -1,6 +1,6 @@
 #!/usr/bin/env python3
-"""The stored input and expected output of each program, and of the examples in C and Rust, and the picture of the example barge,
-all of it made by the second program (reference/).
+"""The stored input and expected output of each program, and of the examples in C and Rust, all of it made by the second program
+(reference/), and the picture of the example barge, drawn from its listing (picture/).
 
 Run at the root of the project:  python3 tools/stored.py           writes them
                                  python3 tools/stored.py --check   fails where one isn't what the reference prints today
@@ -10,7 +10,8 @@ from pathlib import Path
 
 sys.path.insert(0, '.')
 
-from reference import dayfile, figures, files, picture, scripts, survey  # noqa: E402
+from picture.picture import picture  # noqa: E402
+from reference import dayfile, figures, files, scripts, survey  # noqa: E402
 
 
 def morning(script: str) -> str:
@@ -33,7 +34,7 @@ def stored() -> dict[Path, bytes]:
     found[Path('examples/barge.day')] = whole  # the file that the example barge's morning writes
     barge = Path('examples/barge.txt').read_text()
     found[Path('examples/answers.txt')] = (morning(barge) + dayfile.listing(whole)).encode('ascii')
-    found[Path('examples/barge.svg')] = picture.picture(dayfile.listing(whole)).encode('ascii')
+    found[Path('examples/barge.svg')] = picture(dayfile.listing(whole)).encode('ascii')
     return found
 
 

@@ -1,5 +1,6 @@
 //! The barge's morning of `../barge.txt` in Rust: the whole sheet of the paper is made, reported, written, read back and listed. A
 //! line for each call: its name and its answer.
+#[path = "../../rust/fummidrake.rs"]
 mod fummidrake;
 
 use fummidrake::{breadths_at_station, list, read, stations, Changed, Entry, Reported, Sheet};
@@ -12,7 +13,7 @@ fn answered(call: &str, answer: Changed) -> Sheet {
 }
 
 /// Prints what stands: open or not, the tonnage length, how many, and each space.
-fn print_spaces(sheet: Sheet) {
+fn print_spaces(sheet: &Sheet) {
     print!("spaces 0 {} {} {}", sheet.is_open() as u8, sheet.tonnage_length(), sheet.standing_count());
     for x in sheet.spaces() {
         print!(" {}:{}:{}:{}:{}:{}", x.id, x.within, x.kind, x.standing, x.tonnage, x.length);
@@ -20,7 +21,7 @@ fn print_spaces(sheet: Sheet) {
     println!();
 }
 
-fn print_report(answer: Reported) {
+fn print_report(answer: &Reported) {
     println!("report {} {} {}", answer.number, answer.gross, answer.net);
 }
 
@@ -62,17 +63,18 @@ fn changed_and_undone(mut sheet: Sheet) -> Sheet {
 
 fn main() -> std::io::Result<()> {
     let sheet = changed_and_undone(whole_sheet());
-    print_spaces(sheet);
+    print_spaces(&sheet);
     let counted = sheet.counts();
     println!("counts 0 {} {}", counted.undoable, counted.redoable);
-    print_report(sheet.report(0));
+    let reported = counted.sheet.report(0);
+    print_report(&reported);
 
-    let file = written(sheet);
+    let file = written(reported.sheet);
     let reading = read(&file);
     println!("read {} {} {} {}", reading.number, reading.position, reading.justified, reading.start);
-    print_spaces(reading.sheet);
+    print_spaces(&reading.sheet);
     let sheet = answered("undo", reading.sheet.undo());
-    print_report(sheet.report(reading.justified));
+    print_report(&sheet.report(reading.justified));
 
     std::io::stdout().write_all(list(&file).text())
 }

@@ -1,16 +1,17 @@
 -- "Reading judges the last sheet only; bytes before it don't matter."
 use Prim.Native.Nat.{ℕ, _+_, _-_}
+use mathlib.Core.Path.{_≡_}
 use mathlib.Core.Bool.{Bool, true, false, cond, not, _||_}
 use mathlib.Core.List.{List, [], _∷_, _++_}
 use lib.Dec.{eqb, ltb}
 use lib.ListN.{length, take, drop, getD}
 use Rattle.measure.specs.Refusals.{firstOf}
-use Rattle.spaces.specs.Gross.{gross, net}
+use Rattle.standard.specs.Gross.{gross, net}
 use Rattle.spaces.specs.declared.space.Space.{Space}
 use Rattle.sheet.specs.Sheet.{standing, blank}
 use Rattle.sheet.specs.Changes.{withStanding}
 use Rattle.sheet.specs.Calls.{reported}
-use Rattle.spaces.specs.Records.{recordNumber}
+use Rattle.standard.specs.Records.{recordNumber}
 use Rattle.sheet.specs.declared.sheet.Sheet.{Sheet}
 use Rattle.dayfile.specs.Fields.{fitting}
 use Rattle.dayfile.specs.Record.{recordFields, recordsIn, spaceOf, spacesOf}
@@ -100,3 +101,12 @@ readOf file =
 -- "the bytes ahead of that start are the earlier sheets, read the same way"
 abbrev pub readBefore : List ℕ → ℕ → Reading
 readBefore file start = readOf (take start file)
+
+-- An accepted reading as facts: 16, 17, then 13 or 14, then 18, none of which applies, and what is answered (proofs/laws/Reading).
+pub record ReadingAccepted (file : List ℕ) : Type 0 where
+  pub ends-in-sheet : noSheet file ≡ false
+  pub no-fault : faultIn file ≡ 0
+  pub reports : reported (sheetIn file) (lastTrailer file .justified) .number ≡ 0
+  pub gross-is : gross (standing (sheetIn file)) ≡ lastTrailer file .gross
+  pub net-is : net (standing (sheetIn file)) ≡ lastTrailer file .net
+  pub reading-is : readOf file ≡ acceptedReading (sheetIn file) (lastTrailer file .justified) (startOf file)

@@ -5,7 +5,7 @@ use mathlib.Core.List.{List, [], _∷_, _++_}
 use lib.Dec.{eqb, ltb}
 use lib.ListN.{length, take, drop}
 use Rattle.measure.specs.Refusals.{firstOf}
-use Rattle.spaces.specs.Gross.{gross, net}
+use Rattle.standard.specs.Gross.{gross, net}
 use Rattle.sheet.specs.Sheet.{standing}
 use Rattle.sheet.specs.Calls.{reported}
 use Rattle.sheet.specs.declared.sheet.Sheet.{Sheet}

@@ -15,8 +15,8 @@ use Rattle.dayfile.specs.Writing.{sheetBytes}
 use Rattle.dayfile.specs.Reading.{acceptedReading, readOf}
 use Rattle.dayfile.specs.Day.{dayBytes, sheetsIn, Day, none, last}
 use Rattle.dayfile.specs.declared.reading.Reading.{Reading}
-use Rattle.dayfile_laws.proofs.Writable.{Writable}
-use Rattle.dayfile_laws.proofs.WrittenRead.{asRead, length-bytes, written-then-read}
+use Rattle.dayfile_laws.specs.Day.{Writable, AllWritable, asRead, readings}
+use Rattle.dayfile_laws.proofs.WrittenRead.{length-bytes, written-then-read}
 use Rattle.dayfile_laws.proofs.ReadWritten.{start-before-end}
 
 -- ---- the readings of a file
@@ -50,17 +50,6 @@ only-these {file} {all} {others} day other =
     ∙ take-all n others (omega arith)
 
 -- ---- written one after another
-
--- each can be written with its mark
-abbrev pub AllWritable : List (Sheet × ℕ) → Type 0
-AllWritable [] = Unit
-AllWritable (first ∷ later) = Writable (first .0) (first .1) × AllWritable later
-
--- what reading gives of each, in the order they were written, the first from `start` on and each other where the one before it ends
-abbrev pub readings : ℕ → List (Sheet × ℕ) → List Reading
-readings start [] = []
-readings start (first ∷ later) =
-    acceptedReading (asRead (first .0)) (first .1) start ∷ readings (start + sheetSize (first .0 .count)) later
 
 -- one sheet behind a file is its last
 one-more : {file : List ℕ} {earlier : List Reading} (s : Sheet) (justified : ℕ) → Writable s justified → Day file earlier

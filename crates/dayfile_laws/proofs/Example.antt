@@ -6,17 +6,17 @@ use Rattle.measure.specs.Rounding.{nearest}
 use Rattle.measure.specs.Kinds.{kindOf}
 use Rattle.measure.specs.Ranges.{within}
 use Rattle.measure.specs.Allowances.{hatchwayAllowance, hatchwayExcess, ballastOver}
-use Rattle.spaces.specs.Space.{mayTake}
+use Rattle.standard.specs.Standings.{mayTake}
 use Rattle.spaces.specs.Enclosure.{above}
-use Rattle.spaces.specs.Gross.{grossOver, gross, net, unjustified}
+use Rattle.standard.specs.Gross.{grossOver, gross, net, unjustified}
 use Rattle.sheet.specs.Sheet.{standing, usable, blank}
 use Rattle.sheet.specs.Calls.{reported}
-use Rattle.spaces.specs.Records.{recordNumber}
+use Rattle.standard.specs.Records.{recordNumber}
 use Rattle.sheet.specs.declared.sheet.Sheet.{Sheet}
 use Rattle.sheet.specs.declared.calls.Reported.{Reported}
 use Rattle.sheet_laws.proofs.Resumable.{resumable-exactly}
 use Rattle.dayfile.specs.Writing.{sheetBytes}
-use Rattle.dayfile_laws.proofs.Writable.{ResumableSheet, Writable, sheetWith}
+use Rattle.dayfile_laws.specs.Day.{ResumableSheet, Writable, sheetWith}
 use Rattle.dayfile_laws.proofs.WrittenRead.{length-bytes}
 
 -- "tonnage length 4800; space 1 the U above; 2 the S above; 3 a room in 1, standing 2 ..; 4 a room in 2, standing 3 ..; 5 a hatchway"

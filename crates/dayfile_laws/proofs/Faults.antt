@@ -1,28 +1,34 @@
--- 17's position: "the position, from 1, of the first such record". Stands on nothing of the file's numbers.
-use Prim.Native.Nat.{ℕ, zero, suc, _+_, _<_}
-use mathlib.Core.Path.{_≡_, refl, _∙_}
-use mathlib.Core.Bool.{true, false}
+-- 17's position, both ways: it is that of the first faulty record, and 0 exactly where there is none. Stands on nothing of the file's
+-- numbers.
+use Prim.Native.Nat.{ℕ, zero, suc, _+_, _-_, _<_}
+use mathlib.Core.Path.{_≡_, refl, ap, _∙_}
+use mathlib.Core.Bool.{Bool, true, false}
 use mathlib.Core.List.{List, [], _∷_, _++_, append-assoc, append-nil}
 use native.Mathlib.Omega.{arith}
+use borrow.Author.Tests.{eqb-true, eqb-false, ltb-true, ltb-false}
+use lib.Dec.{eqb, ltb}
 use lib.ListN.{length, take, getD, length-append}
 use Rattle.spaces.specs.declared.space.Space.{Space}
-use Rattle.spaces.proofs.laws.Cases.{by-test}
+use Rattle.spaces.proofs.laws.Cases.{by-test, not-both}
 use Rattle.dayfile.specs.Record.{spaceOf, spacesOf}
 use Rattle.dayfile.specs.Reading.{faulty, firstFaulty}
+use Rattle.dayfile_laws.specs.Faults.{FirstFault, NoFault, FaultExactly}
 
--- of some records after the spaces `before`, the one at a place from 0 is faulty after those ahead of it, and none of these is
-pub record FirstFault (L : ℕ) (before : List Space) (records : List (List ℕ)) (place : ℕ) : Type 0 where
-  pub in-order : place < length records
-  pub faulty-there : faulty L (before ++ spacesOf (take place records)) (getD records place []) ≡ true
-  pub none-ahead : (i : ℕ) → i < place → faulty L (before ++ spacesOf (take i records)) (getD records i []) ≡ false
+-- ---- after any spaces, so that the records go one by one
 
--- a position that isn't 0 is that of the first faulty record
-pub record FaultFound (L : ℕ) (before : List Space) (records : List (List ℕ)) (position : ℕ) : Type 0 where
-  pub place : ℕ
-  pub position-is : position ≡ length before + (place + 1)
-  pub first-fault : FirstFault L before records place
+-- of some records after the spaces `before`, the one at a place from 0 is faulty after those ahead of it
+abbrev faultyAfter : ℕ → List Space → List (List ℕ) → ℕ → Bool
+faultyAfter L before records place = faulty L (before ++ spacesOf (take place records)) (getD records place [])
 
-pub fault-found : (L : ℕ) (before : List Space) (records : List (List ℕ)) → (firstFaulty L before records ≡ 0 → ⊥)
+-- a position that isn't 0 has a faulty record, and none ahead of it
+record FaultFound (L : ℕ) (before : List Space) (records : List (List ℕ)) (position : ℕ) : Type 0 where
+  place : ℕ
+  position-is : position ≡ length before + (place + 1)
+  in-order : place < length records
+  faulty-there : faultyAfter L before records place ≡ true
+  none-ahead : (i : ℕ) → i < place → faultyAfter L before records i ≡ false
+
+fault-found : (L : ℕ) (before : List Space) (records : List (List ℕ)) → (firstFaulty L before records ≡ 0 → ⊥)
     → FaultFound L before records (firstFaulty L before records)
 fault-found L before [] some = absurd (some refl)
 fault-found L before (numbers ∷ rest) some =
@@ -31,7 +37,9 @@ fault-found L before (numbers ∷ rest) some =
     record {
       place = 0;
       position-is = rw t;
-      first-fault = record { in-order = omega arith; faulty-there = rw append-nil t; none-ahead = λ i h. absurd (omega arith) };
+      in-order = omega arith;
+      faulty-there = rw append-nil t;
+      none-ahead = λ i h. absurd (omega arith);
     })
     (λ f. later f (fault-found L next rest (λ z. some (rw f z))))
   where
@@ -43,14 +51,76 @@ fault-found L before (numbers ∷ rest) some =
         record {
           place = suc (found .place);
           position-is = rw f (found .position-is ∙ omega (arith, length-append before (spaceOf numbers ∷ [])));
-          first-fault =
-              record {
-                in-order = omega (arith, found .first-fault .in-order);
-                faulty-there = rw append-assoc at (found .first-fault .faulty-there);
-                none-ahead = none;
-              };
+          in-order = omega (arith, found .in-order);
+          faulty-there = rw append-assoc at (found .faulty-there);
+          none-ahead = none;
         }
       where
-        none : (i : ℕ) → i < suc (found .place) → faulty L (before ++ spacesOf (take i (numbers ∷ rest))) (getD (numbers ∷ rest) i []) ≡ false
+        none : (i : ℕ) → i < suc (found .place) → faultyAfter L before (numbers ∷ rest) i ≡ false
         none zero h = rw append-nil f
-        none (suc i) h = rw append-assoc at (found .first-fault .none-ahead i (omega arith))
+        none (suc i) h = rw append-assoc at (found .none-ahead i (omega arith))
+
+-- and 0 has none at all: neither the first nor one after it
+pub none-first : (L : ℕ) (before : List Space) (numbers : List ℕ) (rest : List (List ℕ)) → firstFaulty L before (numbers ∷ rest) ≡ 0
+    → (faulty L before numbers ≡ false) × (firstFaulty L (before ++ (spaceOf numbers ∷ [])) rest ≡ 0)
+none-first L before numbers rest z =
+    by-test (faulty L before numbers)
+    (λ t. let never : length before + 1 ≡ 0 = rw t at z in absurd (omega arith))
+    (λ f. (f, rw f at z))
+
+none-found : (L : ℕ) (before : List Space) (records : List (List ℕ)) → firstFaulty L before records ≡ 0
+    → (i : ℕ) → i < length records → faultyAfter L before records i ≡ false
+none-found L before [] z i h = absurd (omega arith)
+none-found L before (numbers ∷ rest) z zero h = rw append-nil (none-first L before numbers rest z .0)
+none-found L before (numbers ∷ rest) z (suc i) h =
+    rw append-assoc at (none-found L (before ++ (spaceOf numbers ∷ [])) rest (none-first L before numbers rest z .1) i (omega arith))
+
+-- ---- of all records
+
+module _ (L : ℕ) (records : List (List ℕ)) where
+  abbrev found : ℕ
+  found = firstFaulty L [] records
+
+  none : found ≡ 0 → NoFault L records
+  none z i least most = none-found L [] records z (i - 1) (omega arith)
+
+  first : (found ≡ 0 → ⊥) → FirstFault L records found
+  first some =
+      let f = fault-found L [] records some in
+      let place-is : found - 1 ≡ f .place = omega (arith, f .position-is) in
+      record {
+        at-least-1 = omega (arith, f .position-is);
+        at-most-all = omega (arith, f .position-is, f .in-order);
+        faulty-there = ap (faultyAfter L [] records) place-is ∙ f .faulty-there;
+        none-before = λ i least before. f .none-ahead (i - 1) (omega arith);
+      }
+
+  -- there is one first faulty record at most
+  same-first : (p q : ℕ) → FirstFault L records p → FirstFault L records q → p ≡ q
+  same-first p q a b =
+      by-test (ltb p q)
+      (λ t. not-both (a .faulty-there) (b .none-before p (a .at-least-1) (ltb-true _ _ t)))
+      (λ f.
+      by-test (ltb q p)
+      (λ t. not-both (b .faulty-there) (a .none-before q (b .at-least-1) (ltb-true _ _ t)))
+      (λ g. omega (arith, ltb-false p q f, ltb-false q p g)))
+
+  -- which a fault-free row hasn't
+  not-faulty : {p : ℕ} → FirstFault L records p → NoFault L records → ⊥
+  not-faulty {p} a none = not-both (a .faulty-there) (none p (a .at-least-1) (a .at-most-all))
+
+  pub fault-exactly : FaultExactly L records (firstFaulty L [] records)
+  fault-exactly =
+      by-test (eqb found 0)
+      (λ t.
+      let z = eqb-true _ 0 t in
+      record {
+        first-exactly = λ p some. (λ e. absurd (omega (arith, z, e)), λ a. absurd (not-faulty a (none z)));
+        none-exactly = (none, λ n. z);
+      })
+      (λ f.
+      let a = first (eqb-false _ 0 f) in
+      record {
+        first-exactly = λ p some. (λ e. rw e at a, λ b. same-first found p a b);
+        none-exactly = (λ z. absurd (eqb-false _ 0 f z), λ n. absurd (not-faulty a n));
+      })

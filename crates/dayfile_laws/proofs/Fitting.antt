@@ -15,16 +15,17 @@ use Rattle.measure.specs.declared.kinds.Kind.the-variants.{UnderDeck, BetweenDe
 use Rattle.measure.specs.declared.ranges.Range.{Range}
 use Rattle.measure.proofs.laws.Tests.{and-left}
 use Rattle.measure.proofs.laws.Ranges.{within-most}
-use Rattle.spaces.specs.Space.{isRoom, mayTake}
-use Rattle.spaces.specs.Gross.{gross, net}
+use Rattle.spaces.specs.Space.{isRoom}
+use Rattle.standard.specs.Standings.{mayTake}
+use Rattle.standard.specs.Gross.{gross, net}
 use Rattle.spaces.specs.declared.space.Space.{Space}
 use Rattle.spaces.proofs.laws.Cases.{by-test, not-both, or-fails}
-use Rattle.spaces.proofs.laws.Standing.{kind-outside, standing-outside}
+use Rattle.standard.proofs.laws.Standings.{kind-outside, standing-outside}
 use Rattle.spaces_laws.proofs.Tests.{and-fails}
 use Rattle.spaces_laws.proofs.Lists.{_∈_, found-stands}
 use Rattle.spaces_laws.proofs.Valid.{Sound, valid-is-sound}
 use Rattle.spaces_laws.proofs.Report.{net-at-most-gross, gross-bounded}
-use Rattle.spaces.specs.Records.{misrecorded}
+use Rattle.standard.specs.Records.{misrecorded}
 use Rattle.sheet_laws.proofs.Resumable.{Resumable}
 use Rattle.dayfile.specs.Record.{recordFields, numbersOf}
 use Rattle.dayfile_laws.proofs.Fields.{InFields, fitting-of}

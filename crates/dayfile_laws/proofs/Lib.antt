@@ -1,9 +1,11 @@
--- What the file's definitions mean: written, then read; read, then written; a day's sheets. Read from top to bottom.
+-- What the file's definitions mean: 17's position; the last sheet behind any bytes; written, then read; read, then written; a day's sheets.
+-- Read from top to bottom.
 pub mod Numbers
 pub mod Fields
 pub mod Faults
+pub mod LastSheet
 pub mod Records
-pub mod Writable
+pub mod Resumed
 pub mod Fitting
 pub mod Writing
 pub mod WrittenRead

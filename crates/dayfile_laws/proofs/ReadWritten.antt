@@ -6,24 +6,25 @@ use native.Mathlib.Omega.{arith}
 use lib.ListN.{length, take, drop, length-drop, take-append-drop, drop-of-length-le}
 use lib.Seq.{take-all, drop-drop}
 use Rattle.measure.proofs.laws.Volumes.{at-most-drop}
-use Rattle.spaces.specs.Gross.{gross, net}
+use Rattle.standard.specs.Gross.{gross, net}
 use Rattle.spaces.specs.declared.space.Space.{Space}
 use Rattle.sheet.specs.Sheet.{standing}
-use Rattle.spaces.specs.Records.{firstRefused}
-use Rattle.sheet.specs.declared.sheet.Sheet.{Sheet}
+use Rattle.standard.specs.Records.{firstRefused}
 use Rattle.sheet_laws.proofs.Resumable.{resumable-exactly, OfRecords}
 use Rattle.dayfile.specs.Numbers.{Bytes}
 use Rattle.dayfile.specs.Record.{recordSize, records, recordsIn, spacesOf}
 use Rattle.dayfile.specs.Trailer.{trailerSize, sheetSize, trailerBytes}
 use Rattle.dayfile.specs.Writing.{trailerFor, sheetBytes, writtenInto}
-use Rattle.dayfile.specs.Reading.{lastTrailer, startOf, lastRecords, faultIn, sheetIn, acceptedReading, readOf}
+use Rattle.dayfile.specs.Reading.{lastTrailer, startOf, lastRecords, faultIn, sheetIn, readOf, ReadingAccepted}
 use Rattle.dayfile.proofs.laws.Trailer.{tonnage-length-fits}
 use Rattle.dayfile.proofs.laws.Writing.{trailer-is}
-use Rattle.dayfile.proofs.laws.Reading.{Framed, framed, count-fits, judged, ReadingAccepted, reading-accepted}
+use Rattle.dayfile.proofs.laws.Reading.{Framed, framed, count-fits, judged, reading-accepted}
+use Rattle.dayfile_laws.specs.Writing.{Puts}
+use Rattle.dayfile_laws.specs.Day.{ResumableSheet, Writable, asRead}
 use Rattle.dayfile_laws.proofs.Records.{records-written, trailer-written}
-use Rattle.dayfile_laws.proofs.Writable.{ResumableSheet, Writable, standing-same, length-same, has-200-places, made-again}
-use Rattle.dayfile_laws.proofs.Writing.{Puts, puts-its-bytes}
-use Rattle.dayfile_laws.proofs.WrittenRead.{asRead, has-places, written-then-read}
+use Rattle.dayfile_laws.proofs.Resumed.{standing-same, length-same, has-200-places, made-again}
+use Rattle.dayfile_laws.proofs.Writing.{puts-its-bytes}
+use Rattle.dayfile_laws.proofs.WrittenRead.{has-places}
 
 -- ---- its sheet, and the bytes of it
 
@@ -143,13 +144,3 @@ module _ (file : List ℕ) (read : readOf file .number ≡ 0) where
   read-of-records =
       let s = read-is-writable .sheet in
       record { length-in-range = s .length-in-range; resumable = s .resumable; sheet-is = sym read-again }
-
-  -- "bytes before it don't matter": behind any others it is read the same
-  pub bytes-before : Bytes file → (pre : List ℕ)
-      → readOf (pre ++ drop (readOf file .start) file) ≡ acceptedReading (readOf file .sheet) (readOf file .justified) (length pre)
-  bytes-before bytes pre =
-      let s = readOf file .sheet in
-      let mark = readOf file .justified in
-      ap (λ (l : List ℕ). readOf (pre ++ l)) (sym (read-then-written bytes))
-      ∙ written-then-read s mark read-is-writable pre
-      ∙ ap (λ (again : Sheet). acceptedReading again mark (length pre)) read-again

@@ -1,4 +1,5 @@
--- Records and trailers, both ways: what fits its fields is read back, and what was read fitting is written back. Stands on Fields.
+-- Records and trailers, both ways: what fits its fields is read back, and what was read fitting is written back. Stands on Fields,
+-- Faults.
 use Prim.Native.Nat.{ℕ, zero, suc, _+_, _*_, _≤_}
 use mathlib.Core.Path.{_≡_, refl, sym, ap, _∙_}
 use mathlib.Core.Bool.{true, not}
@@ -10,7 +11,7 @@ use lib.ListN.{length, take, drop, getD, length-drop}
 use lib.Seq.{drop-at, take-add}
 use Rattle.measure.proofs.laws.Volumes.{at-most-drop}
 use Rattle.spaces.specs.declared.space.Space.{Space}
-use Rattle.spaces.proofs.laws.Cases.{by-test, or-fails}
+use Rattle.spaces.proofs.laws.Cases.{or-fails}
 use Rattle.spaces_laws.proofs.Lists.{_∈_}
 use Rattle.sheet.specs.declared.sheet.Sheet.{Sheet}
 use Rattle.dayfile.specs.Numbers.{Bytes}
@@ -18,9 +19,10 @@ use Rattle.dayfile.specs.Fields.{widths, encoded, fitting}
 use Rattle.dayfile.specs.Record.{recordFields, recordSize, numbersOf, recordBytes, records, recordNumbers, spaceOf, recordsIn, spacesOf}
 use Rattle.dayfile.specs.Trailer.{trailerFields, trailerSize, numbersOfTrailer, trailerBytes, trailerNumbers, trailerRight, trailerOf}
 use Rattle.dayfile.specs.Writing.{trailerFor}
-use Rattle.dayfile.specs.Reading.{faulty, firstFaulty}
+use Rattle.dayfile.specs.Reading.{firstFaulty}
 use Rattle.dayfile.proofs.laws.Record.{within-record, length-record}
 use Rattle.dayfile.proofs.laws.Trailer.{distance-is, within-trailer}
+use Rattle.dayfile_laws.proofs.Faults.{none-first}
 use Rattle.dayfile_laws.proofs.Fields.{RangesFit, ranges-fit-widths, decoded-encoded, encoded-decoded}
 
 -- every field is wide enough for its range
@@ -82,21 +84,17 @@ pub records-written : (L : ℕ) (before : List Space) (n : ℕ) (bytes : List �
     → firstFaulty L before (recordsIn n bytes) ≡ 0 → records (spacesOf (recordsIn n bytes)) ≡ take (recordSize * n) bytes
 records-written L before zero bytes all long none = refl
 records-written L before (suc n) bytes all long none =
-    by-test (faulty L before v)
-    (λ t. let never : length before + 1 ≡ 0 = rw t at none in absurd (omega arith))
-    (λ f.
-    let size : recordSize + recordSize * n ≡ recordSize * suc n = omega arith in
-    let fit = not-false _ (or-fails (not (fitting recordFields v)) _ f .0) in
+    let v = recordNumbers bytes in
     let later = drop recordSize bytes in
+    let (sound, none-later) = none-first L before v (recordsIn n later) none in
+    let fit = not-false _ (or-fails (not (fitting recordFields v)) _ sound .0) in
+    let size : recordSize + recordSize * n ≡ recordSize * suc n = omega arith in
     let others =
-    records-written L (before ++ (spaceOf v ∷ [])) n later (at-most-drop recordSize all) (rw length-drop (omega arith)) (rw f at none) in
+    records-written L (before ++ (spaceOf v ∷ [])) n later (at-most-drop recordSize all) (rw length-drop (omega arith)) none-later in
     ap (λ (b : List ℕ). b ++ records (spacesOf (recordsIn n later))) (record-written bytes all (omega arith) fit)
     ∙ ap (λ (b : List ℕ). take recordSize bytes ++ b) others
     ∙ sym (take-add recordSize (recordSize * n) bytes)
-    ∙ ap (λ (k : ℕ). take k bytes) size)
-  where
-    v : List ℕ
-    v = recordNumbers bytes
+    ∙ ap (λ (k : ℕ). take k bytes) size
 
 -- and those of a right trailer have its distance too
 pub trailer-written : (bytes : List ℕ) → Bytes bytes → trailerSize ≤ length bytes → trailerRight (trailerNumbers bytes) ≡ true

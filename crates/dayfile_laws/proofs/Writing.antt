@@ -14,12 +14,7 @@ use Rattle.sheet.proofs.laws.Calls.{passed, after-call}
 use Rattle.dayfile.specs.Trailer.{sheetSize}
 use Rattle.dayfile.specs.Writing.{sheetBytes, writeNumber, written, placed, writtenInto}
 use Rattle.dayfile.proofs.laws.Writing.{length-sheet, room}
-
--- the bytes of a buffer after a write: as many as before, and the same before the named place and behind the bytes written
-pub record Untouched (at bytes : ℕ) (buffer after : List ℕ) : Type 0 where
-  pub as-many : length after ≡ length buffer
-  pub before : take at after ≡ take at buffer
-  pub behind : drop (at + bytes) after ≡ drop (at + bytes) buffer
+use Rattle.dayfile_laws.specs.Writing.{Untouched, WriteAccepted, Puts}
 
 -- ---- bytes placed in a buffer
 
@@ -46,12 +41,6 @@ module _ (buffer : List ℕ) (at : ℕ) (bytes : List ℕ) (room : at + length b
 
 -- ---- an accepted write
 
-pub record WriteAccepted (s : Sheet) (justified at : ℕ) (buffer : List ℕ) : Type 0 where
-  pub reports : reported s justified .number ≡ 0
-  pub room : at + sheetSize (s .count) ≤ length buffer
-  pub bytes-are : written s justified (length buffer) at .bytes ≡ sheetSize (s .count)
-  pub into : writtenInto s justified at buffer ≡ placed buffer at (sheetBytes s justified)
-
 pub write-accepted : (s : Sheet) (justified at : ℕ) (buffer : List ℕ) → written s justified (length buffer) at .number ≡ 0
     → WriteAccepted s justified at buffer
 unfolding writeNumber written writtenInto
@@ -66,12 +55,6 @@ write-accepted s justified at buffer e =
       bytes-are = rw zero;
       into = rw zero;
     }
-
--- a write puts exactly these bytes at a place of a buffer
-pub record Puts (bytes : List ℕ) (s : Sheet) (justified at : ℕ) (buffer : List ℕ) : Type 0 where
-  pub accepted : written s justified (length buffer) at .number ≡ 0
-  pub as-many : written s justified (length buffer) at .bytes ≡ length bytes
-  pub into : writtenInto s justified at buffer ≡ placed buffer at bytes
 
 -- one whose report is given puts the bytes of its sheet, wherever there is room
 pub puts-its-bytes : (s : Sheet) (justified at : ℕ) (buffer : List ℕ) → reported s justified .number ≡ 0 → s .count ≤ length (s .spaces)

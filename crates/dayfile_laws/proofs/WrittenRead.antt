@@ -1,20 +1,20 @@
--- Written, then read: a sheet that resumes comes back from its bytes, whatever stands before them. Stands on Fitting, Writing.
+-- Written, then read: a sheet that resumes comes back from its bytes, whatever stands before them. Stands on LastSheet, Fitting,
+-- Writing.
 use Prim.Native.Nat.{ℕ, _+_, _-_, _≤_}
 use mathlib.Core.Path.{_≡_, refl, sym, ap, _∙_}
-use mathlib.Core.Bool.{true, false}
-use mathlib.Core.List.{List, [], _∷_, _++_, map, append-assoc, List·Memᴰ·head, List·Memᴰ·tail}
+use mathlib.Core.Bool.{true}
+use mathlib.Core.List.{List, [], _∷_, _++_, map, List·Memᴰ·head, List·Memᴰ·tail}
 use native.Mathlib.Omega.{arith}
-use borrow.Author.Tests.{le-ltb, eq-eqb}
-use lib.Dec.{ltb}
-use lib.ListN.{length, take, drop, getD, length-append}
-use lib.Seq.{length-take-le, drop-at, drop-append-seam}
-use Rattle.spaces.specs.Gross.{gross, net}
+use borrow.Author.Tests.{eq-eqb}
+use lib.ListN.{length, take, drop}
+use lib.Seq.{length-take-le}
+use Rattle.standard.specs.Gross.{gross, net}
 use Rattle.spaces.specs.declared.space.Space.{Space}
 use Rattle.spaces_laws.proofs.Tests.{and-holds-of}
 use Rattle.spaces_laws.proofs.Lists.{_∈_}
-use Rattle.sheet.specs.Sheet.{standing, usable}
-use Rattle.sheet.specs.Calls.{counted, reported}
-use Rattle.spaces.specs.Records.{firstRefused}
+use Rattle.sheet.specs.Sheet.{standing}
+use Rattle.sheet.specs.Calls.{reported}
+use Rattle.standard.specs.Records.{firstRefused}
 use Rattle.sheet.specs.declared.sheet.Sheet.{Sheet}
 use Rattle.sheet.proofs.laws.Sheet.{usable-counts}
 use Rattle.sheet.proofs.laws.Report.{Given, given}
@@ -23,20 +23,18 @@ use Rattle.dayfile.specs.Fields.{fitting}
 use Rattle.dayfile.specs.Record.{numbersOf, records, recordsIn, spacesOf}
 use Rattle.dayfile.specs.Trailer.{trailerFields, trailerSize, sheetSize, numbersOfTrailer, trailerNumbers, trailerRight, trailerOf, trailerBytes}
 use Rattle.dayfile.specs.Writing.{trailerFor, sheetBytes, written, writtenInto}
-use Rattle.dayfile.specs.Reading.{lastNumbers, lastTrailer, startOf, lastRecords, noSheet, firstFaulty, faultIn, sheetIn, acceptedReading, readOf}
+use Rattle.dayfile.specs.Reading.{lastNumbers, lastTrailer, lastRecords, firstFaulty, faultIn, sheetIn, acceptedReading, readOf}
 use Rattle.dayfile.specs.Handed.{readAs, eachReadAs}
-use Rattle.dayfile.specs.declared.reading.Reading.{Reading}
 use Rattle.dayfile.proofs.laws.Writing.{length-trailer, length-sheet}
-use Rattle.dayfile.proofs.laws.Reading.{by-distance, judged, read-judged, same-figures}
+use Rattle.dayfile.proofs.laws.Reading.{judged, read-judged, same-figures}
+use Rattle.dayfile_laws.specs.Reading.{ReadBack}
+use Rattle.dayfile_laws.specs.Day.{ResumableSheet, Writable, sheetWith, asRead}
 use Rattle.dayfile_laws.proofs.Fields.{InFields, fitting-of}
+use Rattle.dayfile_laws.proofs.LastSheet.{same-numbers, WholeSheet, trailer-behind, starts-behind, records-behind, framed-behind}
 use Rattle.dayfile_laws.proofs.Records.{Fits, records-read, spaces-of-numbers, trailer-read}
-use Rattle.dayfile_laws.proofs.Writable.{ResumableSheet, Writable, sheetWith, standing-same, length-same, is-usable, same-report, none-open}
+use Rattle.dayfile_laws.proofs.Resumed.{standing-same, length-same, is-usable, same-report, none-open}
 use Rattle.dayfile_laws.proofs.Fitting.{in-range, each-fits, gross-at-most, net-at-most}
 use Rattle.dayfile_laws.proofs.Writing.{placed-up-to, write-accepted}
-
--- the last n of some bytes
-last-part : (before bytes : List ℕ) (n : ℕ) → length bytes ≡ n → drop (length (before ++ bytes) - n) (before ++ bytes) ≡ bytes
-last-part before bytes n e = drop-at before bytes (length (before ++ bytes) - n) (omega (arith, length-append before bytes))
 
 -- records that fit are handed to the sheet as they are
 each-read-as : (xs : List Space) → ((x : Space) → x ∈ xs → Fits x) → eachReadAs (map numbersOf xs) ≡ xs
@@ -49,11 +47,7 @@ none-faulty : (L : ℕ) (xs : List Space) → ((x : Space) → x ∈ xs → Fits
     → firstFaulty L [] (map numbersOf xs) ≡ 0
 none-faulty L xs fit none = judged L [] (map numbersOf xs) .none-faulty (rw (each-read-as xs fit) none)
 
--- ---- the sheet as it is read
-
--- open, with the same spaces and tonnage length, and no open changes
-abbrev pub asRead : Sheet → Sheet
-asRead s = sheetWith (s .length) (standing s)
+-- ---- written, then read
 
 module _ (s : Sheet) (justified : ℕ) (w : Writable s justified) where
   report-given : Given s justified (reported s justified)
@@ -96,43 +90,36 @@ module _ (s : Sheet) (justified : ℕ) (w : Writable s justified) where
       (length-same (s .length) (standing s))
       ∙ w .reports
 
+  numbers-at-end : lastNumbers (sheetBytes s justified) ≡ numbersOfTrailer (trailerFor s justified)
+  unfolding sheetBytes
+  numbers-at-end =
+      let t = trailerBytes (trailerFor s justified) in
+      let all = length-trailer (trailerFor s justified) in
+      same-numbers (records (standing s)) t (omega (arith, all))
+      ∙ ap (λ (n : ℕ). trailerNumbers (drop (n - trailerSize) t)) all
+      ∙ trailer-read s justified trailer-fits
+
+  whole : WholeSheet (sheetBytes s justified)
+  whole =
+      record {
+        right = ap trailerRight numbers-at-end ∙ trailer-right;
+        size-is = length-bytes ∙ ap (λ (numbers : List ℕ). sheetSize (trailerOf numbers .count)) (sym numbers-at-end);
+      }
+
   module _ (pre : List ℕ) where
     abbrev file : List ℕ
     file = pre ++ sheetBytes s justified
 
-    length-file : length file ≡ length pre + sheetSize (s .count)
-    length-file = length-append pre (sheetBytes s justified) ∙ ap (λ (n : ℕ). length pre + n) length-bytes
-
-    numbers-at-end : lastNumbers file ≡ numbersOfTrailer (trailerFor s justified)
-    unfolding sheetBytes
-    numbers-at-end =
-        let xs = records (standing s) in
-        let t = trailerBytes (trailerFor s justified) in
-        ap lastNumbers (sym (append-assoc pre xs t))
-        ∙ ap trailerNumbers (last-part (pre ++ xs) t trailerSize (length-trailer (trailerFor s justified)))
-        ∙ trailer-read s justified trailer-fits
-
     trailer-is : lastTrailer file ≡ trailerFor s justified
-    trailer-is = ap trailerOf numbers-at-end
-
-    starts : startOf file ≡ length pre
-    starts = ap (λ t. length file - sheetSize (t .count)) trailer-is ∙ omega (arith, length-file)
+    trailer-is = trailer-behind whole pre ∙ ap trailerOf numbers-at-end
 
     records-are : lastRecords file ≡ map numbersOf (standing s)
     unfolding sheetBytes
     records-are =
-        ap (λ t. recordsIn (t .count) (drop (startOf file) file)) trailer-is
-        ∙ ap (λ (n : ℕ). recordsIn (s .count) (drop n file)) starts
-        ∙ ap (λ (bytes : List ℕ). recordsIn (s .count) bytes) (drop-append-seam pre (sheetBytes s justified))
+        records-behind whole pre
+        ∙ ap (λ (numbers : List ℕ). recordsIn (trailerOf numbers .count) (sheetBytes s justified)) numbers-at-end
         ∙ ap (λ (n : ℕ). recordsIn n (sheetBytes s justified)) (sym length-standing)
         ∙ records-read (standing s) (trailerBytes (trailerFor s justified)) (each-fits taken)
-
-    ends-in-sheet : noSheet file ≡ false
-    ends-in-sheet =
-        let right : trailerRight (lastNumbers file) ≡ true = ap trailerRight numbers-at-end ∙ trailer-right in
-        by-distance file (omega (arith, length-file)) right
-        ∙ ap (λ (numbers : List ℕ). ltb (length file) (getD numbers 0 0)) numbers-at-end
-        ∙ le-ltb (length file) (sheetSize (s .count)) (omega (arith, length-file))
 
     no-fault : faultIn file ≡ 0
     unfolding faultIn
@@ -155,23 +142,9 @@ module _ (s : Sheet) (justified : ℕ) (w : Writable s justified) where
         let same = standing-same (s .length) (standing s) in
         sym
         (same-figures (asRead s) t (length pre) reports-again (ap gross same) (ap net same)
-        ∙ read-judged file (asRead s) t (length pre) (sym sheet-is) (sym trailer-is) (sym starts) ends-in-sheet no-fault)
+        ∙ read-judged file (asRead s) t (length pre) (sym sheet-is) (sym trailer-is) (sym (starts-behind whole pre)) (framed-behind whole pre) no-fault)
 
 -- ---- the same in the paper's words
-
--- a reading has what was written with a mark from a place on
-pub record ReadBack (s : Sheet) (justified start : ℕ) (r : Reading) : Type 0 where
-  pub accepted : r .number ≡ 0
-  -- the same spaces, in the same order
-  pub same-spaces : standing (r .sheet) ≡ standing s
-  pub same-length : r .sheet .length ≡ s .length
-  pub same-mark : r .justified ≡ justified
-  -- "The sheet read is open, with no open changes."
-  pub is-open : usable (r .sheet) ≡ true
-  pub none-undoable : counted (r .sheet) .undoable ≡ 0
-  pub none-redoable : counted (r .sheet) .redoable ≡ 0
-  -- "where the sheet starts"
-  pub starts : r .start ≡ start
 
 pub has-read-back : (s : Sheet) (justified start : ℕ) → Writable s justified → ReadBack s justified start (acceptedReading (asRead s) justified start)
 has-read-back s justified start w =

@@ -1,13 +1,14 @@
 -- Demand 1: "Every call ends and stays inside what it was lent, for any numbers and any file. Nobody has to check first. A refusal gives
 -- its number from the paper, changes neither sheet nor buffer, and is given exactly when the paper says."
--- That every call ends and stays inside what it was lent is what the check proves of each function; and no public function has a
--- `requires`, so nobody has to check first. Here is what the check doesn't say. Stands on Tests.
+-- That every call ends and stays inside what it was lent is what the check proves of each function; and no public function asks
+-- anything of what it is given (NoSecondAnswer), so nobody has to check first. Here is what the check doesn't say. When a call is to be
+-- refused, each of its numbers with the condition, is in specs/Refusals. Stands on Tests.
 use Prim.Native.Nat.{ℕ, _-_}
 use mathlib.Core.Path.{_≡_, refl, sym, ap, _∙_}
-use mathlib.Core.Bool.{Bool, true, false, cond, not, _&&_, _||_}
-use mathlib.Core.List.{List, [], _∷_, _++_}
+use mathlib.Core.Bool.{Bool, true, false, cond, not}
+use mathlib.Core.List.{List, [], _∷_}
 use native.Mathlib.Omega.{arith}
-use borrow.Author.Tests.{not-true, ne-eqb, eq-eqb, eqb-true, eqb-false, le-ltb}
+use borrow.Author.Tests.{not-true, ne-eqb, eqb-true, eqb-false, le-ltb}
 use lib.Dec.{eqb, ltb, lit<}
 use lib.ListN.{length, drop}
 use Rattle.measure.specs.Kinds.{kindOf}
@@ -15,15 +16,13 @@ use Rattle.measure.specs.Ranges.{within, tonnageLengths}
 use Rattle.measure.specs.Refusals.{firstOf}
 use Rattle.measure.specs.Volumes.{hundredths}
 use Rattle.measure.specs.Offsets.{inRange, counted as rightlyCounted, measured}
-use Rattle.spaces.specs.Row.{sumOf}
-use Rattle.spaces.specs.Rules.{entryTests, withdrawTests, markTests}
-use Rattle.spaces.specs.Gross.{gross, net, unjustified}
+use Rattle.standard.specs.Rules.{entryTests}
+use Rattle.standard.specs.Gross.{gross, net}
 use Rattle.spaces.specs.declared.space.Space.{Space}
-use Rattle.spaces.specs.declared.sums.Amount.the-variants.{Lengths}
 use Rattle.spaces.proofs.laws.Cases.{by-test}
 use Rattle.sheet.specs.Sheet.{standing, usable, blank}
 use Rattle.sheet.specs.Calls.{openedWith, entered, withdrawn, marked, undone, redone, counted, reported}
-use Rattle.spaces.specs.Records.{misrecorded, recordNumber, firstRefused}
+use Rattle.standard.specs.Records.{recordNumber, firstRefused}
 use Rattle.sheet.specs.Resume.{resumed}
 use Rattle.sheet.specs.declared.sheet.Sheet.{Sheet}
 use Rattle.sheet.specs.declared.calls.Entry.{Entry}
@@ -32,85 +31,18 @@ use Rattle.sheet_laws.proofs.Runs.{refused-changes-nothing}
 use Rattle.dayfile.specs.Trailer.{sheetSize}
 use Rattle.dayfile.specs.Writing.{writeNumber, written, writtenInto}
 use Rattle.dayfile.specs.Record.{spacesOf}
+use Rattle.dayfile.specs.declared.reading.Reading.{Reading}
 use Rattle.dayfile.specs.Reading.{lastNumbers, lastTrailer, startOf, lastRecords, noSheet, faultIn, sheetIn, readNumber, refusedReading, readOf}
 use Rattle.dayfile.proofs.laws.Trailer.{within-trailer}
-use Rattle.dayfile.proofs.laws.Reading.{framed, count-fits}
-use Rattle.dayfile_laws.proofs.Writable.{is-usable}
-use Rattle.dayfile_laws.proofs.Faults.{FaultFound, fault-found}
+use Rattle.dayfile.proofs.laws.Reading.{framed, count-fits, read-17}
+use Rattle.dayfile_laws.specs.Faults.{FaultExactly}
+use Rattle.dayfile_laws.proofs.Resumed.{is-usable}
+use Rattle.dayfile_laws.proofs.Faults.{fault-exactly}
 use Rattle.dayfile_laws.proofs.ReadWritten.{length-spaces}
-use Rattle.demands.proofs.Reached.{DayCall, call, write, handedBack, numberOf}
-use Rattle.demands.proofs.Tests.{FirstGiven, LowestGiven, first-given, lowest-given, spliced, either}
-
--- ---- the rows of "Numbers of refusal" that each call can be refused with. The conditions of entryTests (4 to 10), withdrawTests
--- (5, 11) and markTests (5, 6, 8) are defined in spaces/specs/Rules, those of 16 and 17 in dayfile/specs/Reading.
-
--- 2: the tonnage length is outside its range
-abbrev pub openTests : ℕ → List (Bool × ℕ)
-openTests L = (not (within tonnageLengths L), 2) ∷ []
-
--- 1; 2: its standing, its kind or a measure is outside its range; 3: its offsets are not the number the rules ask; 4 to 10
-abbrev pub enterTests : Sheet → Entry → List ℕ → List ℕ → List (Bool × ℕ)
-enterTests s e heights breadths =
-    let k = kindOf (e .kind) in
-    let t = hundredths (s .length) in
-    let l = hundredths (e .length) in
-    (not (usable s), 1)
-    ∷ (ltb 3 (e .standing) || not (inRange k t l heights breadths), 2)
-    ∷ (not (rightlyCounted k t l heights breadths), 3)
-    ∷ entryTests (s .length) (standing s) (spaceOf (s .length) e heights breadths)
-
--- 1, 5, 11
-abbrev pub withdrawalTests : Sheet → ℕ → List (Bool × ℕ)
-withdrawalTests s id = (not (usable s), 1) ∷ withdrawTests (standing s) id
-
--- 1; 2: the standing is outside its range; 5, 6, 8
-abbrev pub markingTests : Sheet → ℕ → ℕ → List (Bool × ℕ)
-markingTests s id standing' = (not (usable s), 1) ∷ (ltb 3 standing', 2) ∷ markTests (standing s) id standing'
-
--- 1; 12: nothing undoable, or nothing redoable
-abbrev pub undoTests : Sheet → List (Bool × ℕ)
-undoTests s = (not (usable s), 1) ∷ (eqb (s .undoable) 0, 12) ∷ []
-
-abbrev pub redoTests : Sheet → List (Bool × ℕ)
-redoTests s = (not (usable s), 1) ∷ (eqb (s .redoable) 0, 12) ∷ []
-
--- 13: "U lengths don't add up to the tonnage length"; 14: "ballast over 30%, not justified"
-abbrev pub lengthsShort : Sheet → Bool
-lengthsShort s = not (eqb (sumOf Lengths (standing s)) (s .length))
-
-abbrev pub ballastUnjustified : Sheet → ℕ → Bool
-ballastUnjustified s justified = unjustified (standing s) && eqb justified 0
-
--- 1; 2: the justified mark is outside its range; 13, 14
-abbrev pub reportTests : Sheet → ℕ → List (Bool × ℕ)
-reportTests s justified =
-    (not (usable s), 1) ∷ (ltb 1 justified, 2) ∷ (lengthsShort s, 13) ∷ (ballastUnjustified s justified, 14) ∷ []
-
--- the same, and 15: "buffer has too little room from the named place"
-abbrev pub writeTests : Sheet → ℕ → ℕ → ℕ → List (Bool × ℕ)
-writeTests s justified size at = reportTests s justified ++ ((ltb (size - at) (sheetSize (s .count)), 15) ∷ [])
-
--- 18: "gross or net isn't what the records give"
-abbrev pub figuresWrong : List ℕ → Bool
-figuresWrong file =
-    let xs = standing (sheetIn file) in
-    not (eqb (gross xs) (lastTrailer file .gross)) || not (eqb (net xs) (lastTrailer file .net))
-
--- "except in reading: there 16, 17, 13, 14, 18 in that order"
-abbrev pub readTests : List ℕ → List (Bool × ℕ)
-readTests file =
-    let s = sheetIn file in
-    let t = lastTrailer file in
-    (noSheet file, 16)
-    ∷ (not (eqb (faultIn file) 0), 17)
-    ∷ (lengthsShort s, 13)
-    ∷ (ballastUnjustified s (t .justified), 14)
-    ∷ (figuresWrong file, 18)
-    ∷ []
-
--- "It checks records in file order as entries with the recorded tonnage and length": 2 of a record's own numbers, then 4 to 10
-abbrev pub recordTests : ℕ → List Space → Space → List (Bool × ℕ)
-recordTests L before x = (misrecorded x, 2) ∷ entryTests L before x
+use Rattle.demands.specs.Reached.{DayCall, call, write, handedBack, numberOf}
+use Rattle.demands.specs.Tests.{FirstGiven, LowestGiven}
+use Rattle.demands.specs.Refusals.{openTests, enterTests, withdrawalTests, markingTests, undoTests, redoTests, lengthsShort, ballastUnjustified, reportTests, writeTests, figuresWrong, readTests, recordTests, Given17, NothingRead}
+use Rattle.demands.proofs.Tests.{first-given, lowest-given, spliced, either}
 
 -- ---- "is given exactly when the paper says": for any sheet and any numbers
 
@@ -199,6 +131,53 @@ answered-number file = by-test (eqb (readNumber file) 0) (λ t. rw t (sym (eqb-t
 pub read-refused : (file : List ℕ) → FirstGiven (readTests file) (readOf file .number)
 read-refused file = rw (answered-number file ∙ read-number file) (first-given (readTests file) (omega arith))
 
+with-17 : (a b c d e : Bool) → firstOf ((a, 16) ∷ (b, 17) ∷ (c, 13) ∷ (d, 14) ∷ (e, 18) ∷ []) ≡ 17 → (a ≡ false) × (b ≡ true)
+with-17 true b c d e z = absurd (omega arith)
+with-17 false true c d e z = (refl, refl)
+with-17 false false true d e z = absurd (omega arith)
+with-17 false false false true e z = absurd (omega arith)
+with-17 false false false false true z = absurd (omega arith)
+with-17 false false false false false z = absurd (omega arith)
+
+after-16 : (file : List ℕ) → readOf file .number ≡ 17 → (noSheet file ≡ false) × (not (eqb (faultIn file) 0) ≡ true)
+after-16 file z =
+    let s = sheetIn file in
+    let fault = not (eqb (faultIn file) 0) in
+    with-17 (noSheet file) fault (lengthsShort s) (ballastUnjustified s (lastTrailer file .justified)) (figuresWrong file)
+    (sym (answered-number file ∙ read-number file) ∙ z)
+
+faults-exactly : (file : List ℕ) → FaultExactly (lastTrailer file .«tonnage_length») (lastRecords file) (faultIn file)
+unfolding faultIn
+faults-exactly file = fault-exactly (lastTrailer file .«tonnage_length») (lastRecords file)
+
+pub read-17-exactly : (file : List ℕ) → noSheet file ≡ false → Given17 file
+unfolding refusedReading
+read-17-exactly file ends-in-sheet =
+    let exactly = faults-exactly file in
+    by-test (eqb (faultIn file) 0)
+    (λ t.
+    let z = eqb-true _ 0 t in
+    let never : readOf file .number ≡ 17 → ⊥ = λ e. eqb-false _ 0 (not-true _ (after-16 file e .1)) z in
+    record {
+      with-position = λ p. (
+        λ given. absurd (never (given .0)),
+        λ a. absurd (omega (arith, z, a .at-least-1, exactly .first-exactly p (a .at-least-1) .1 a)),
+      );
+      not-given = (λ e. exactly .none-exactly .0 z, λ none. never);
+    })
+    (λ f.
+    let some = eqb-false _ 0 f in
+    let reading = read-17 file ends-in-sheet some in
+    let number : readOf file .number ≡ 17 = sym (ap (λ (r : Reading). r .number) reading) in
+    let position : faultIn file ≡ readOf file .position = ap (λ (r : Reading). r .position) reading in
+    record {
+      with-position = λ p. (
+        λ given. exactly .first-exactly p (omega (arith, some)) .0 (position ∙ given .1),
+        λ a. (number, sym position ∙ exactly .first-exactly p (a .at-least-1) .1 a),
+      );
+      not-given = (λ e. absurd (e number), λ none. absurd (some (exactly .none-exactly .1 none)));
+    })
+
 -- ---- "changes neither sheet nor buffer"
 
 -- "A refused change, undo or redo hands back the sheet as it came", and so does every other refused call on a sheet
@@ -237,32 +216,6 @@ pub counts-when-not-open : (s : Sheet) → usable s ≡ false → (counted s .un
 unfolding counted
 counts-when-not-open s closed = (rw closed, rw closed)
 
--- "A refused .. read hands back a sheet not open, mark 0, start 0." 17 "with the position, from 1, of the first such record", and "The
--- position is 0 for every number but 17."
-pub record NothingRead (file : List ℕ) : Type 0 where
-  pub not-open : usable (readOf file .sheet) ≡ false
-  pub mark-0 : readOf file .justified ≡ 0
-  pub start-0 : readOf file .start ≡ 0
-  pub position-with-17 : readOf file .number ≡ 17 → FaultFound (lastTrailer file .«tonnage_length») [] (lastRecords file) (readOf file .position)
-  pub position-0 : (readOf file .number ≡ 17 → ⊥) → readOf file .position ≡ 0
-
-with-17 : (a b c d e : Bool) → firstOf ((a, 16) ∷ (b, 17) ∷ (c, 13) ∷ (d, 14) ∷ (e, 18) ∷ []) ≡ 17 → b ≡ true
-with-17 true b c d e z = absurd (omega arith)
-with-17 false true c d e z = refl
-with-17 false false true d e z = absurd (omega arith)
-with-17 false false false true e z = absurd (omega arith)
-with-17 false false false false true z = absurd (omega arith)
-with-17 false false false false false z = absurd (omega arith)
-
-fault-position : (file : List ℕ) → readNumber file ≡ 17 → FaultFound (lastTrailer file .«tonnage_length») [] (lastRecords file) (faultIn file)
-unfolding faultIn
-fault-position file z =
-    let s = sheetIn file in
-    let t = lastTrailer file in
-    let fault = not (eqb (faultIn file) 0) in
-    let applies = with-17 (noSheet file) fault (lengthsShort s) (ballastUnjustified s (t .justified)) (figuresWrong file) (sym (read-number file) ∙ z) in
-    fault-found (t .«tonnage_length») [] (lastRecords file) (eqb-false _ 0 (not-true _ applies))
-
 pub refused-read-gives : (file : List ℕ) → (readOf file .number ≡ 0 → ⊥) → NothingRead file
 unfolding readOf refusedReading usable blank
 refused-read-gives file refused =
@@ -273,8 +226,6 @@ refused-read-gives file refused =
       not-open = rw f;
       mark-0 = rw f;
       start-0 = rw f;
-      position-with-17 = λ e.
-          let z = sym (answered-number file) ∙ e in
-          rw (f, eq-eqb (readNumber file) 17 z) (fault-position file z);
+      position-with-17 = λ e. read-17-exactly file (after-16 file e .0) .with-position (readOf file .position) .0 (e, refl);
       position-0 = λ e. rw (f, ne-eqb (readNumber file) 17 (λ q. e (answered-number file ∙ q)));
     })

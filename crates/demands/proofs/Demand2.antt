@@ -1,8 +1,8 @@
--- Demand 2: "Each space's tonnage is the one the regulation gives from the offsets, as document 01 condenses it, to the nearest
--- hundredth of a ton; gross and net follow. A sheet written and read back has the same spaces in the same order; a sheet read and
--- written again with its mark gives the bytes it was read from."
+-- Demand 2: "Each space's tonnage is the one that 46 CFR 69.107 to 69.119 gives from the offsets, as document 01 condenses them, to the
+-- nearest hundredth of a ton, and gross and net follow from them. A sheet written and read back has the same spaces in the same order;
+-- the sheet read from a file, written again with its mark, gives the bytes it was read from."
 -- Stands on Reached. t is the tonnage length and l the space's length; parts, multipliers and areas are defined in measure/specs.
-use Prim.Native.Nat.{ℕ, _+_, _-_, _*_, _≤_, _<_}
+use Prim.Native.Nat.{ℕ, _+_, _*_, _≤_, _<_}
 use mathlib.Core.Path.{_≡_, refl, sym, ap, _∙_}
 use mathlib.Core.List.{List, [], _∷_, _++_}
 use native.Mathlib.Omega.{arith}
@@ -15,7 +15,6 @@ use Rattle.measure.specs.Thirds.{thirdOfLength, thirdOfDepth}
 use Rattle.measure.specs.Multipliers.{weighted, total}
 use Rattle.measure.specs.Volumes.{tons, areas, underDeckVolume, levelVolume, boxVolume}
 use Rattle.measure.specs.Offsets.{middleOf, volume, tonnage, measured}
-use Rattle.measure.specs.Allowances.{hatchwayAllowance, hatchwayExcess}
 use Rattle.measure.specs.declared.units.Hundredths.{Hundredths}
 use Rattle.measure.specs.declared.kinds.Kind.{Kind}
 use Rattle.measure.specs.declared.kinds.Kind.the-variants.{UnderDeck, BetweenDeck, Superstructure, Hatchway, Room, NoKind}
@@ -23,14 +22,12 @@ use Rattle.measure_laws.proofs.Rounding.{nearest-is}
 use Rattle.measure_laws.proofs.Parts.{nearest-parts-is}
 use Rattle.measure_laws.proofs.Offsets.{measured-exactly}
 use Rattle.spaces.specs.Row.{sumOf}
-use Rattle.spaces.specs.Gross.{exempt, grossOver, gross}
-use Rattle.spaces.specs.declared.space.Space.{Space}
-use Rattle.spaces.specs.declared.sums.Amount.the-variants.{Hull, Hatchways, Deducted}
+use Rattle.spaces.specs.declared.sums.Amount.the-variants.{Deducted}
 use Rattle.spaces_laws.proofs.Valid.{valid-is-sound}
-use Rattle.spaces_laws.proofs.Report.{report-exact}
+use Rattle.spaces_laws.proofs.Report.{report-exact, gross-exactly}
 use Rattle.sheet.specs.Sheet.{standing}
 use Rattle.sheet.specs.Changes.{fitted, noted}
-use Rattle.sheet.specs.Calls.{entryOf, measuredFor, entered, reported}
+use Rattle.sheet.specs.Calls.{entryOf, entered, reported}
 use Rattle.sheet.specs.declared.sheet.Sheet.{Sheet}
 use Rattle.sheet.specs.declared.calls.Entry.{Entry}
 use Rattle.sheet.proofs.laws.Report.{given}
@@ -42,11 +39,15 @@ use Rattle.sheet_laws.proofs.Accepted.{enter-accepted}
 use Rattle.dayfile.specs.Numbers.{Bytes}
 use Rattle.dayfile.specs.Writing.{written, writtenInto}
 use Rattle.dayfile.specs.Reading.{readOf}
-use Rattle.dayfile_laws.proofs.Writable.{Writable}
-use Rattle.dayfile_laws.proofs.Writing.{write-accepted, Puts}
-use Rattle.dayfile_laws.proofs.WrittenRead.{ReadBack, has-read-back, written-anywhere}
+use Rattle.dayfile_laws.specs.Writing.{Puts}
+use Rattle.dayfile_laws.specs.Reading.{ReadBack}
+use Rattle.dayfile_laws.specs.Day.{Writable}
+use Rattle.dayfile_laws.proofs.Writing.{write-accepted}
+use Rattle.dayfile_laws.proofs.WrittenRead.{has-read-back, written-anywhere}
 use Rattle.dayfile_laws.proofs.ReadWritten.{written-back}
-use Rattle.demands.proofs.Reached.{Reached, reached-resumable}
+use Rattle.demands.specs.Reached.{Reached}
+use Rattle.demands.specs.Figures.{EnteredLast, GrossAndNet}
+use Rattle.demands.proofs.Reached.{reached-resumable}
 
 -- ---- third intervals and parts
 
@@ -125,12 +126,7 @@ tonnage-of-R t l height breadth z = rounded-once 5 t l (height ∷ []) (breadth 
 
 -- ---- on a sheet
 
--- an accepted entry puts the space with that tonnage last, and leaves the others as they are
-pub record EnteredLast (s : Sheet) (e : Entry) (heights breadths : List ℕ) : Type 0 where
-  pub offsets-accepted : measuredFor s e heights breadths .number ≡ 0
-  pub stands-last : standing (entered s e heights breadths .sheet) ≡ standing s ++ (spaceOf (s .length) e heights breadths ∷ [])
-  pub with-its-tonnage : spaceOf (s .length) e heights breadths .tonnage ≡ measuredFor s e heights breadths .tonnage
-
+-- an accepted entry puts the space with its tonnage last
 pub entered-last : {s : Sheet} → Reached s → (e : Entry) (heights breadths : List ℕ) → entered s e heights breadths .number ≡ 0
     → EnteredLast s e heights breadths
 unfolding entered entryOf fitted noted
@@ -145,35 +141,17 @@ entered-last {s} r e heights breadths z =
       with-its-tonnage = refl;
     }
 
--- ---- gross and net
-
--- from the recorded tonnages of the spaces xs, with nothing cut off but the excess
-pub record GrossAndNet (xs : List Space) (gross net : ℕ) : Type 0 where
-  pub g : ℕ
-  pub allowance : ℕ
-  -- "Let G = T − E."
-  pub whole-less-exempt : g + exempt xs ≡ sumOf Hull xs
-  -- "The hatchway allowance is G/200, nearest, taken without the hatchways"
-  pub allowance-is : Nearest g 200 allowance
-  -- "the excess is the sum of all H less the allowance, or 0. Gross = G + excess"
-  pub gross-is : gross ≡ g + (sumOf Hatchways xs - allowance)
-  -- "net = gross − D"
-  pub net-is : net + sumOf Deducted xs ≡ gross
+-- ---- "and gross and net follow from them"
 
 pub gross-and-net : {s : Sheet} → Reached s → (justified : ℕ) → reported s justified .number ≡ 0
     → GrossAndNet (standing s) (reported s justified .gross) (reported s justified .net)
-unfolding gross grossOver hatchwayExcess hatchwayAllowance
 gross-and-net {s} r justified z =
-    let xs = standing s in
-    let exact = report-exact (reached-resumable r .resumable .valid) in
+    let v = reached-resumable r .resumable .valid in
     let told = given s justified (reported s justified) refl z in
     record {
-      g = sumOf Hull xs - exempt xs;
-      allowance = hatchwayAllowance (sumOf Hull xs - exempt xs);
-      whole-less-exempt = exact .whole-less-exempt;
-      allowance-is = nearest-is (sumOf Hull xs - exempt xs) 200 (omega arith);
-      gross-is = told .gross-is;
-      net-is = ap (λ (n : ℕ). n + sumOf Deducted xs) (told .net-is) ∙ exact .gross-less-deducted ∙ sym (told .gross-is);
+      gross-is = gross-exactly v (reported s justified .gross) .0 (sym (told .gross-is));
+      net-is =
+          ap (λ (n : ℕ). n + sumOf Deducted (standing s)) (told .net-is) ∙ report-exact v .gross-less-deducted ∙ sym (told .gross-is);
     }
 
 -- ---- both round trips
@@ -185,7 +163,7 @@ written-and-read-back {s} r justified at buffer z =
     let w : Writable s justified = record { sheet = reached-resumable r; reports = write-accepted s justified at buffer z .reports } in
     rw (written-anywhere s justified at buffer (w .sheet) z) (has-read-back s justified at w)
 
--- "a sheet read and written again with its mark gives the bytes it was read from": any bytes, wherever there is room
+-- "the sheet read from a file, written again with its mark, gives the bytes it was read from": any bytes, wherever there is room
 pub read-and-written-again : (file : List ℕ) → Bytes file → readOf file .number ≡ 0 → (at : ℕ) (buffer : List ℕ)
     → at + length (drop (readOf file .start) file) ≤ length buffer
     → Puts (drop (readOf file .start) file) (readOf file .sheet) (readOf file .justified) at buffer

@@ -1,5 +1,5 @@
 -- The three demands, each a module that begins with the asker's words, and that no promise leaves room for a second answer. Before
--- them: which sheets calls can reach, and what it means that a number is given by a list of tests. Read from top to bottom.
+-- them: what a sheet is that calls can reach, and how a number is given by a list of tests. Read from top to bottom.
 pub mod Reached
 pub mod Tests
 pub mod Demand1

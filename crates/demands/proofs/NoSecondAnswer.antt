@@ -1,193 +1,380 @@
--- "For every input, refusals too, each public promise determines the answer, the sheet handed back and each byte of a lent buffer."
--- Every public function promises `r ≡ definition arguments`, with no condition on the arguments; of a lent buffer that the bytes after
--- the call are those of a definition; of a part of a slice that its bytes are. (tools/promises.py fails where one promises less.) A
--- definition has one value, so there is no second answer: one law over all of them, and below it each function with its definition.
-use Prim.Native.Nat.{ℕ, min}
-use mathlib.Core.Path.{_≡_, sym, _∙_}
-use mathlib.Core.Bool.{Bool, false}
-use mathlib.Core.List.{List, []}
-use lib.ListN.{length, take, drop}
-use Rattle.script.specs.Laid.{fitting, laid}
-use Rattle.script.specs.Text.{roomForScript}
-use Rattle.script.specs.Words.{first, marksIn, wordAt, sameText, numberOf, valueIn, idOf, codeOf, measureOf, sizeOf, isEmptyList, measuresOf}
-use Rattle.script.specs.Hex.{isHex, bytesOf, hexFitting}
-use Rattle.script.specs.Remarks.{remarkText}
-use Rattle.script.specs.Calls.{surveyForms, figuresForms, lineBy}
-use Rattle.script.specs.declared.words.Number.{Number}
-use Rattle.script.specs.declared.remarks.Remark.{Remark}
-use Rattle.script.specs.declared.calls.Line.{Line}
-use Rattle.measure.specs.Kinds.{kindOf}
-use Rattle.measure.specs.Thirds.{divided as dividedOf}
-use Rattle.measure.specs.Ranges.{within, tonnageLengths, lengths}
-use Rattle.measure.specs.Offsets.{stations as stationsOf, breadthsAtStation, measured}
-use Rattle.measure.specs.Allowances.{hatchwayAllowance, hatchwayExcess, ballastOver}
-use Rattle.measure.specs.declared.kinds.Kind.{Kind}
-use Rattle.measure.specs.declared.units.Hundredths.{Hundredths}
-use Rattle.measure.specs.declared.thirds.Division.{Division}
-use Rattle.measure.specs.declared.offsets.Measured.{Measured}
-use Rattle.spaces.specs.Space.{emptySpace, mayTake}
-use Rattle.spaces.specs.Row.{used as usedOf, find as findIn, foundAs, placeOf, stands as standsIn}
-use Rattle.spaces.specs.Rules.{entryNumber, withdrawNumber, markNumber}
-use Rattle.spaces.specs.Records.{firstRefused}
-use Rattle.spaces.specs.Gross.{reckoned}
-use Rattle.spaces.specs.declared.space.Space.{Space}
-use Rattle.spaces.specs.declared.row.Found.{Found}
-use Rattle.spaces.specs.declared.gross.Reckoning.{Reckoning}
-use Rattle.spaces.specs.declared.records.RefusedRecord.{RefusedRecord}
-use Rattle.sheet.specs.Sheet.{usable, blank, lengthOf, standingCount, spaceAt, placesOf}
-use Rattle.sheet.specs.Calls.{openedWith, entered, withdrawn, marked, undone, redone, counted, reported}
-use Rattle.sheet.specs.Resume.{resumed}
-use Rattle.sheet.specs.declared.sheet.Sheet.{Sheet}
-use Rattle.sheet.specs.declared.calls.Entry.{Entry}
-use Rattle.sheet.specs.declared.calls.Changed.{Changed}
-use Rattle.sheet.specs.declared.calls.Counted.{Counted}
-use Rattle.sheet.specs.declared.calls.Reported.{Reported}
-use Rattle.sheet.specs.declared.resume.Resumed.{Resumed}
-use Rattle.dayfile.specs.Writing.{written, writtenInto}
-use Rattle.dayfile.specs.Reading.{readOf, readBefore}
-use Rattle.dayfile.specs.declared.writing.Written.{Written}
-use Rattle.dayfile.specs.declared.reading.Reading.{Reading}
-use Rattle.listing.specs.Listing.{listed}
-use Rattle.listing.specs.declared.listing.Listing.{Listing}
+-- "For every input, refusals too, each public promise determines the answer, the sheet handed back and each byte of a lent buffer.
+-- Prove that no second answer could satisfy it": a theorem for every public function of every library, the calls for C and Rust
+-- too, about the contract that the check proved of it. What `One` and `OneBy` say is in specs/OneAnswer: whatever is given, nothing
+-- is asked of it, and two ends that the contract allows are one, in the answer and in every value left in what was lent to change.
+-- Every contract says `.. ≡ definition`, so the idea of each proof is that two things equal to a third are equal. tools/promises.py
+-- writes the rows, and fails where a public function has none or where a row says anything else.
+use mathlib.Core.Path.{_≡_, refl, sym, ap, _∙_}
+use denote.Ref.{now}
+use Rattle.demands.specs.OneAnswer.{One, OneBy}
+use Rattle.dayfile.proofs as dayfile
+use Rattle.fummidrake.proofs as fummidrake
+use Rattle.listing.proofs as listing
+use Rattle.measure.proofs as measure
+use Rattle.script.proofs as script
+use Rattle.sheet.proofs as sheet
+use Rattle.spaces.proofs as spaces
+use Rattle.standard.proofs as standard
 
--- the public functions of the libraries (tools/promises.py holds the names to the code), by what they are given and what they answer. An array is the list of its places; the
--- answer of `write` is its value and the whole buffer after it, and so with what lays into an array.
-pub data Public : Type 0 → Type 0 → Type 1 where
-  -- script
-  script-buffer : Public (Unit {0}) (List ℕ)
-  part-at : Public (List ℕ × ℕ × ℕ) (List ℕ)
-  marks : Public (List ℕ × ℕ) ℕ
-  word : Public (List ℕ × ℕ) (List ℕ)
-  same : Public (List ℕ × List ℕ) Bool
-  number-in : Public (List ℕ) Number
-  value-in : Public (List ℕ) ℕ
-  id-in : Public (List ℕ) ℕ
-  code-in : Public (List ℕ) ℕ
-  measure-in : Public (List ℕ) ℕ
-  size-in : Public (List ℕ) ℕ
-  is-empty-list : Public (List ℕ) Bool
-  measures : Public (List ℕ × List ℕ) (ℕ × List ℕ)
-  is-hex : Public (List ℕ) Bool
-  bytes : Public (List ℕ × List ℕ) (ℕ × List ℕ)
-  digits : Public (List ℕ × List ℕ) (ℕ × List ℕ)
-  survey-line : Public (List ℕ) Line
-  figures-line : Public (List ℕ) Line
-  remark-text : Public (Remark × List ℕ) (ℕ × List ℕ)
-  -- measure
-  kind-of : Public ℕ Kind
-  divided : Public (Kind × Hundredths × Hundredths) Division
-  stations : Public (Kind × Hundredths × Hundredths) ℕ
-  breadths-at-station : Public (Kind × Hundredths) ℕ
-  tonnage-length-fits : Public Hundredths Bool
-  length-fits : Public (Kind × Hundredths) Bool
-  measure-offsets : Public (ℕ × Hundredths × Hundredths × List ℕ × List ℕ) Measured
-  hatchway-allowance : Public ℕ ℕ
-  hatchway-excess : Public (ℕ × ℕ) ℕ
-  ballast-over : Public (ℕ × ℕ) Bool
-  -- spaces
-  empty : Public (Unit {0}) Space
-  may-take : Public (ℕ × ℕ) Bool
-  least : Public (ℕ × ℕ) ℕ
-  used : Public ℕ ℕ
-  find : Public (List Space × ℕ × ℕ) Found
-  place-of : Public (List Space × ℕ × ℕ) ℕ
-  stands : Public (List Space × ℕ × ℕ) Bool
-  entry-number : Public (List Space × ℕ × ℕ × Space) ℕ
-  withdraw-number : Public (List Space × ℕ × ℕ) ℕ
-  mark-number : Public (List Space × ℕ × ℕ × ℕ) ℕ
-  first-refused : Public (List Space × ℕ × ℕ) RefusedRecord
-  reckon : Public (List Space × ℕ) Reckoning
-  -- sheet
-  «open» : Public ℕ Changed
-  closed : Public (Unit {0}) Sheet
-  resume : Public (ℕ × List Space × ℕ) Resumed
-  enter : Public (Sheet × Entry × List ℕ × List ℕ) Changed
-  withdraw : Public (Sheet × ℕ) Changed
-  mark : Public (Sheet × ℕ × ℕ) Changed
-  undo : Public Sheet Changed
-  redo : Public Sheet Changed
-  counts : Public Sheet Counted
-  report : Public (Sheet × ℕ) Reported
-  is-open : Public Sheet Bool
-  tonnage-length : Public Sheet ℕ
-  standing-count : Public Sheet ℕ
-  space-at : Public (Sheet × ℕ) Space
-  places : Public Sheet (List Space)
-  -- dayfile
-  read : Public (List ℕ) Reading
-  read-before : Public (List ℕ × ℕ) Reading
-  part-from : Public (List ℕ × ℕ) (List ℕ)
-  part-before : Public (List ℕ × ℕ) (List ℕ)
-  write : Public (Sheet × ℕ × List ℕ × ℕ) (Written × List ℕ)
-  -- listing
-  list : Public (List ℕ) Listing
+agree : {A : Type 0} {x y z : A} → x ≡ z → y ≡ z → x ≡ y
+agree p q = p ∙ sym q
 
--- what each promises
-unfoldable pub promised : {Given Answer : Type 0} → Public Given Answer → Given → Answer
-promised script-buffer none = roomForScript
-promised part-at (text, at, byte) = first byte (drop at text)
-promised marks (text, byte) = marksIn byte text
-promised word (line, place) = wordAt place line
-promised same (a, b) = sameText a b
-promised number-in text = numberOf text
-promised value-in text = valueIn (numberOf text)
-promised id-in text = idOf text
-promised code-in text = codeOf text
-promised measure-in text = measureOf text
-promised size-in text = sizeOf text
-promised is-empty-list text = isEmptyList text
-promised measures (text, into) = (fitting (measuresOf text) into, laid (measuresOf text) into)
-promised is-hex text = isHex text
-promised bytes (text, into) = (fitting (bytesOf text) into, laid (bytesOf text) into)
-promised digits (file, into) = (fitting (hexFitting file into) into, laid (hexFitting file into) into)
-promised survey-line line = lineBy surveyForms line
-promised figures-line line = lineBy figuresForms line
-promised remark-text (remark, into) = (fitting (remarkText remark) into, laid (remarkText remark) into)
-promised kind-of code = kindOf code
-promised divided (kind, t, l) = dividedOf kind t l
-promised stations (kind, t, l) = stationsOf kind t l
-promised breadths-at-station (kind, middle) = breadthsAtStation kind middle
-promised tonnage-length-fits length = within tonnageLengths length.0
-promised length-fits (kind, length) = within (lengths kind) length.0
-promised measure-offsets (code, t, l, heights, breadths) = measured code t l heights breadths
-promised hatchway-allowance g = hatchwayAllowance g
-promised hatchway-excess (g, hatchways) = hatchwayExcess g hatchways
-promised ballast-over (ballast, gross) = ballastOver ballast gross
-promised empty none = emptySpace
-promised may-take (kind, standing) = mayTake kind standing
-promised least (a, b) = min a b
-promised used count = usedOf count
-promised find (spaces, count, id) = foundAs (findIn id (take count spaces))
-promised place-of (spaces, count, id) = placeOf id (take count spaces)
-promised stands (spaces, count, id) = standsIn id (take count spaces)
-promised entry-number (spaces, count, L, x) = entryNumber L (take count spaces) x
-promised withdraw-number (spaces, count, id) = withdrawNumber (take count spaces) id
-promised mark-number (spaces, count, id, standing) = markNumber (take count spaces) id standing
-promised first-refused (spaces, count, L) = firstRefused L [] (take count spaces)
-promised reckon (spaces, count) = reckoned (take count spaces)
-promised «open» length = openedWith length
-promised closed none = blank false 0
-promised resume (length, records, count) = resumed length (take count records)
-promised enter (s, entry, heights, breadths) = entered s entry heights breadths
-promised withdraw (s, id) = withdrawn s id
-promised mark (s, id, standing) = marked s id standing
-promised undo s = undone s
-promised redo s = redone s
-promised counts s = counted s
-promised report (s, justified) = reported s justified
-promised is-open s = usable s
-promised tonnage-length s = lengthOf s
-promised standing-count s = standingCount s
-promised space-at (s, place) = spaceAt s place
-promised places s = placesOf s
-promised read file = readOf file
-promised read-before (file, start) = readBefore file start
-promised part-from (file, start) = drop start file
-promised part-before (file, start) = take start file
-promised write (s, justified, buffer, at) = (written s justified (length buffer) at, writtenInto s justified at buffer)
-promised list file = listed file
+-- ---- the rows
 
--- two answers that both meet a function's promise are one
-pub no-second-answer : {Given Answer : Type 0} (f : Public Given Answer) (given : Given) {one other : Answer}
-    → one ≡ promised f given → other ≡ promised f given → one ≡ other
-no-second-answer f given p q = p ∙ sym q
+-- measure
+pub measure-hatchway-allowance :
+    One measure.allowances.hatchway_allowance.ended measure.allowances.hatchway_allowance.Reads.Asked measure.allowances.hatchway_allowance.Reads.Learnt
+measure-hatchway-allowance _ = record { nothing-asked = tt; one-answer = agree; one-left = λ p q. refl }
+
+pub measure-hatchway-excess :
+    One measure.allowances.hatchway_excess.ended measure.allowances.hatchway_excess.Reads.Asked measure.allowances.hatchway_excess.Reads.Learnt
+measure-hatchway-excess _ = record { nothing-asked = tt; one-answer = agree; one-left = λ p q. refl }
+
+pub measure-ballast-over :
+    One measure.allowances.ballast_over.ended measure.allowances.ballast_over.Reads.Asked measure.allowances.ballast_over.Reads.Learnt
+measure-ballast-over _ = record { nothing-asked = tt; one-answer = agree; one-left = λ p q. refl }
+
+pub measure-kind-of :
+    One measure.kinds.kind_of.ended measure.kinds.kind_of.Reads.Asked measure.kinds.kind_of.Reads.Learnt
+measure-kind-of _ = record { nothing-asked = tt; one-answer = agree; one-left = λ p q. refl }
+
+pub measure-offsets :
+    One measure.offsets.measure_offsets.ended measure.offsets.measure_offsets.Reads.Asked measure.offsets.measure_offsets.Reads.Learnt
+measure-offsets _ = record { nothing-asked = tt; one-answer = agree; one-left = λ p q. refl }
+
+pub measure-stations :
+    One measure.offsets.stations.ended measure.offsets.stations.Reads.Asked measure.offsets.stations.Reads.Learnt
+measure-stations _ = record { nothing-asked = tt; one-answer = agree; one-left = λ p q. refl }
+
+pub measure-breadths-at-station :
+    One measure.offsets.breadths_at_station.ended measure.offsets.breadths_at_station.Reads.Asked measure.offsets.breadths_at_station.Reads.Learnt
+measure-breadths-at-station _ = record { nothing-asked = tt; one-answer = agree; one-left = λ p q. refl }
+
+pub measure-tonnage-length-fits :
+    One measure.ranges.tonnage_length_fits.ended measure.ranges.tonnage_length_fits.Reads.Asked measure.ranges.tonnage_length_fits.Reads.Learnt
+measure-tonnage-length-fits _ = record { nothing-asked = tt; one-answer = agree; one-left = λ p q. refl }
+
+pub measure-length-fits :
+    One measure.ranges.length_fits.ended measure.ranges.length_fits.Reads.Asked measure.ranges.length_fits.Reads.Learnt
+measure-length-fits _ = record { nothing-asked = tt; one-answer = agree; one-left = λ p q. refl }
+
+pub measure-divided :
+    One measure.thirds.divided.ended measure.thirds.divided.Reads.Asked measure.thirds.divided.Reads.Learnt
+measure-divided _ = record { nothing-asked = tt; one-answer = agree; one-left = λ p q. refl }
+
+-- spaces
+pub spaces-around-space :
+    One spaces.around.around_space.ended spaces.around.around_space.Reads.Asked spaces.around.around_space.Reads.Learnt
+spaces-around-space _ = record { nothing-asked = tt; one-answer = agree; one-left = λ p q. refl }
+
+pub spaces-around-each :
+    One spaces.around.around_each.ended spaces.around.around_each.Reads.Asked spaces.around.around_each.Reads.Learnt
+spaces-around-each _ = record { nothing-asked = tt; one-answer = agree; one-left = λ p q. refl }
+
+pub spaces-all-above :
+    One spaces.enclosure.all_above.ended spaces.enclosure.all_above.Reads.Asked spaces.enclosure.all_above.Reads.Learnt
+spaces-all-above _ = record { nothing-asked = tt; one-answer = agree; one-left = λ p q. refl }
+
+pub spaces-plain-below :
+    One spaces.enclosure.plain_below.ended spaces.enclosure.plain_below.Reads.Asked spaces.enclosure.plain_below.Reads.Learnt
+spaces-plain-below _ = record { nothing-asked = tt; one-answer = agree; one-left = λ p q. refl }
+
+pub spaces-lesser :
+    One spaces.row.lesser.ended spaces.row.lesser.Reads.Asked spaces.row.lesser.Reads.Learnt
+spaces-lesser _ = record { nothing-asked = tt; one-answer = agree; one-left = λ p q. refl }
+
+pub spaces-used :
+    One spaces.row.used.ended spaces.row.used.Reads.Asked spaces.row.used.Reads.Learnt
+spaces-used _ = record { nothing-asked = tt; one-answer = agree; one-left = λ p q. refl }
+
+pub spaces-find :
+    One spaces.row.find.ended spaces.row.find.Reads.Asked spaces.row.find.Reads.Learnt
+spaces-find _ = record { nothing-asked = tt; one-answer = agree; one-left = λ p q. refl }
+
+pub spaces-place-of :
+    One spaces.row.place_of.ended spaces.row.place_of.Reads.Asked spaces.row.place_of.Reads.Learnt
+spaces-place-of _ = record { nothing-asked = tt; one-answer = agree; one-left = λ p q. refl }
+
+pub spaces-stands :
+    One spaces.row.stands.ended spaces.row.stands.Reads.Asked spaces.row.stands.Reads.Learnt
+spaces-stands _ = record { nothing-asked = tt; one-answer = agree; one-left = λ p q. refl }
+
+pub spaces-empty :
+    One spaces.space.empty.ended spaces.space.empty.Reads.Asked spaces.space.empty.Reads.Learnt
+spaces-empty _ = record { nothing-asked = tt; one-answer = agree; one-left = λ p q. refl }
+
+pub spaces-sum :
+    One spaces.sums.sum.ended spaces.sums.sum.Reads.Asked spaces.sums.sum.Reads.Learnt
+spaces-sum _ = record { nothing-asked = tt; one-answer = λ p q. agree (p .0) (q .0); one-left = λ p q. refl }
+
+pub spaces-total-up :
+    One spaces.sums.total_up.ended spaces.sums.total_up.Reads.Asked spaces.sums.total_up.Reads.Learnt
+spaces-total-up _ = record { nothing-asked = tt; one-answer = λ p q. agree (p .0) (q .0); one-left = λ p q. refl }
+
+-- standard
+pub standard-reckon :
+    One standard.gross.reckon.ended standard.gross.reckon.Reads.Asked standard.gross.reckon.Reads.Learnt
+standard-reckon _ = record { nothing-asked = tt; one-answer = agree; one-left = λ p q. refl }
+
+pub standard-first-refused :
+    One standard.records.first_refused.ended standard.records.first_refused.Reads.Asked standard.records.first_refused.Reads.Learnt
+standard-first-refused _ = record { nothing-asked = tt; one-answer = agree; one-left = λ p q. refl }
+
+pub standard-entry-number :
+    One standard.rules.entry_number.ended standard.rules.entry_number.Reads.Asked standard.rules.entry_number.Reads.Learnt
+standard-entry-number _ = record { nothing-asked = tt; one-answer = agree; one-left = λ p q. refl }
+
+pub standard-withdraw-number :
+    One standard.rules.withdraw_number.ended standard.rules.withdraw_number.Reads.Asked standard.rules.withdraw_number.Reads.Learnt
+standard-withdraw-number _ = record { nothing-asked = tt; one-answer = agree; one-left = λ p q. refl }
+
+pub standard-mark-number :
+    One standard.rules.mark_number.ended standard.rules.mark_number.Reads.Asked standard.rules.mark_number.Reads.Learnt
+standard-mark-number _ = record { nothing-asked = tt; one-answer = agree; one-left = λ p q. refl }
+
+pub standard-may-take :
+    One standard.standings.may_take.ended standard.standings.may_take.Reads.Asked standard.standings.may_take.Reads.Learnt
+standard-may-take _ = record { nothing-asked = tt; one-answer = agree; one-left = λ p q. refl }
+
+-- sheet
+pub sheet-open :
+    One sheet.sheet.Sheet.open.ended sheet.sheet.Sheet.open.Reads.Asked sheet.sheet.Sheet.open.Reads.Learnt
+sheet-open _ = record { nothing-asked = tt; one-answer = agree; one-left = λ p q. refl }
+
+pub sheet-enter :
+    One sheet.sheet.Sheet.enter.ended sheet.sheet.Sheet.enter.Reads.Asked sheet.sheet.Sheet.enter.Reads.Learnt
+sheet-enter _ = record { nothing-asked = tt; one-answer = agree; one-left = λ p q. refl }
+
+pub sheet-withdraw :
+    One sheet.sheet.Sheet.withdraw.ended sheet.sheet.Sheet.withdraw.Reads.Asked sheet.sheet.Sheet.withdraw.Reads.Learnt
+sheet-withdraw _ = record { nothing-asked = tt; one-answer = agree; one-left = λ p q. refl }
+
+pub sheet-mark :
+    One sheet.sheet.Sheet.mark.ended sheet.sheet.Sheet.mark.Reads.Asked sheet.sheet.Sheet.mark.Reads.Learnt
+sheet-mark _ = record { nothing-asked = tt; one-answer = agree; one-left = λ p q. refl }
+
+pub sheet-undo :
+    One sheet.sheet.Sheet.undo.ended sheet.sheet.Sheet.undo.Reads.Asked sheet.sheet.Sheet.undo.Reads.Learnt
+sheet-undo _ = record { nothing-asked = tt; one-answer = agree; one-left = λ p q. refl }
+
+pub sheet-redo :
+    One sheet.sheet.Sheet.redo.ended sheet.sheet.Sheet.redo.Reads.Asked sheet.sheet.Sheet.redo.Reads.Learnt
+sheet-redo _ = record { nothing-asked = tt; one-answer = agree; one-left = λ p q. refl }
+
+pub sheet-counts :
+    One sheet.sheet.Sheet.counts.ended sheet.sheet.Sheet.counts.Reads.Asked sheet.sheet.Sheet.counts.Reads.Learnt
+sheet-counts _ = record { nothing-asked = tt; one-answer = agree; one-left = λ p q. refl }
+
+pub sheet-report :
+    One sheet.sheet.Sheet.report.ended sheet.sheet.Sheet.report.Reads.Asked sheet.sheet.Sheet.report.Reads.Learnt
+sheet-report _ = record { nothing-asked = tt; one-answer = agree; one-left = λ p q. refl }
+
+pub sheet-resume :
+    One sheet.sheet.Sheet.resume.ended sheet.sheet.Sheet.resume.Reads.Asked sheet.sheet.Sheet.resume.Reads.Learnt
+sheet-resume _ = record { nothing-asked = tt; one-answer = agree; one-left = λ p q. refl }
+
+pub sheet-closed :
+    One sheet.sheet.Sheet.closed.ended sheet.sheet.Sheet.closed.Reads.Asked sheet.sheet.Sheet.closed.Reads.Learnt
+sheet-closed _ = record { nothing-asked = tt; one-answer = agree; one-left = λ p q. refl }
+
+pub sheet-tonnage-length :
+    One sheet.sheet.Sheet.tonnage_length.ended sheet.sheet.Sheet.tonnage_length.Reads.Asked sheet.sheet.Sheet.tonnage_length.Reads.Learnt
+sheet-tonnage-length _ = record { nothing-asked = tt; one-answer = agree; one-left = λ p q. refl }
+
+pub sheet-standing-count :
+    One sheet.sheet.Sheet.standing_count.ended sheet.sheet.Sheet.standing_count.Reads.Asked sheet.sheet.Sheet.standing_count.Reads.Learnt
+sheet-standing-count _ = record { nothing-asked = tt; one-answer = agree; one-left = λ p q. refl }
+
+pub sheet-space-at :
+    One sheet.sheet.Sheet.space_at.ended sheet.sheet.Sheet.space_at.Reads.Asked sheet.sheet.Sheet.space_at.Reads.Learnt
+sheet-space-at _ = record { nothing-asked = tt; one-answer = agree; one-left = λ p q. refl }
+
+pub sheet-places :
+    One sheet.sheet.Sheet.places.ended sheet.sheet.Sheet.places.Reads.Asked sheet.sheet.Sheet.places.Reads.Learnt
+sheet-places _ = record { nothing-asked = tt; one-answer = agree; one-left = λ p q. refl }
+
+pub sheet-is-open :
+    One sheet.sheet.Sheet.is_open.ended sheet.sheet.Sheet.is_open.Reads.Asked sheet.sheet.Sheet.is_open.Reads.Learnt
+sheet-is-open _ = record { nothing-asked = tt; one-answer = agree; one-left = λ p q. refl }
+
+-- dayfile
+pub dayfile-read :
+    One dayfile.read.ended dayfile.read.Reads.Asked dayfile.read.Reads.Learnt
+dayfile-read _ = record { nothing-asked = tt; one-answer = agree; one-left = λ p q. refl }
+
+pub dayfile-read-before :
+    One dayfile.read_before.ended dayfile.read_before.Reads.Asked dayfile.read_before.Reads.Learnt
+dayfile-read-before _ = record { nothing-asked = tt; one-answer = agree; one-left = λ p q. refl }
+
+pub dayfile-part-from :
+    OneBy dayfile.part_from.ended dayfile.part_from.Reads.Asked dayfile.part_from.Reads.Learnt (λ lives. now)
+dayfile-part-from _ = record { nothing-asked = tt; one-answer = agree; one-left = λ p q. refl }
+
+pub dayfile-part-before :
+    OneBy dayfile.part_before.ended dayfile.part_before.Reads.Asked dayfile.part_before.Reads.Learnt (λ lives. now)
+dayfile-part-before _ = record { nothing-asked = tt; one-answer = agree; one-left = λ p q. refl }
+
+pub dayfile-write :
+    One dayfile.write.ended dayfile.write.Reads.Asked dayfile.write.Reads.Learnt
+dayfile-write _ =
+    record { nothing-asked = tt; one-answer = λ p q. agree (p .0) (q .0); one-left = λ p q. ap (λ b. (tt, (tt, (b, (tt, tt))))) (agree (p .1) (q .1)) }
+
+-- script
+pub script-survey-line :
+    One script.calls.survey_line.ended script.calls.survey_line.Reads.Asked script.calls.survey_line.Reads.Learnt
+script-survey-line _ = record { nothing-asked = tt; one-answer = agree; one-left = λ p q. refl }
+
+pub script-figures-line :
+    One script.calls.figures_line.ended script.calls.figures_line.Reads.Asked script.calls.figures_line.Reads.Learnt
+script-figures-line _ = record { nothing-asked = tt; one-answer = agree; one-left = λ p q. refl }
+
+pub script-is-hex :
+    One script.hex.is_hex.ended script.hex.is_hex.Reads.Asked script.hex.is_hex.Reads.Learnt
+script-is-hex _ = record { nothing-asked = tt; one-answer = agree; one-left = λ p q. refl }
+
+pub script-bytes :
+    One script.hex.bytes.ended script.hex.bytes.Reads.Asked script.hex.bytes.Reads.Learnt
+script-bytes _ =
+    record { nothing-asked = tt; one-answer = λ p q. agree (p .0) (q .0); one-left = λ p q. ap (λ b. (tt, (b, tt))) (agree (p .1) (q .1)) }
+
+pub script-digits :
+    One script.hex.digits.ended script.hex.digits.Reads.Asked script.hex.digits.Reads.Learnt
+script-digits _ =
+    record { nothing-asked = tt; one-answer = λ p q. agree (p .0) (q .0); one-left = λ p q. ap (λ b. (tt, (b, tt))) (agree (p .1) (q .1)) }
+
+pub script-remark-text :
+    One script.remarks.remark_text.ended script.remarks.remark_text.Reads.Asked script.remarks.remark_text.Reads.Learnt
+script-remark-text _ =
+    record { nothing-asked = tt; one-answer = λ p q. agree (p .0) (q .0); one-left = λ p q. ap (λ b. (tt, (b, tt))) (agree (p .1) (q .1)) }
+
+pub script-buffer :
+    One script.text.script_buffer.ended script.text.script_buffer.Reads.Asked script.text.script_buffer.Reads.Learnt
+script-buffer _ = record { nothing-asked = tt; one-answer = λ p q. agree (p .0) (q .0); one-left = λ p q. refl }
+
+pub script-part-at :
+    OneBy script.words.part_at.ended script.words.part_at.Reads.Asked script.words.part_at.Reads.Learnt (λ lives. now)
+script-part-at _ = record { nothing-asked = tt; one-answer = agree; one-left = λ p q. refl }
+
+pub script-marks :
+    One script.words.marks.ended script.words.marks.Reads.Asked script.words.marks.Reads.Learnt
+script-marks _ = record { nothing-asked = tt; one-answer = agree; one-left = λ p q. refl }
+
+pub script-word :
+    OneBy script.words.word.ended script.words.word.Reads.Asked script.words.word.Reads.Learnt (λ lives. now)
+script-word _ = record { nothing-asked = tt; one-answer = agree; one-left = λ p q. refl }
+
+pub script-same :
+    One script.words.same.ended script.words.same.Reads.Asked script.words.same.Reads.Learnt
+script-same _ = record { nothing-asked = tt; one-answer = agree; one-left = λ p q. refl }
+
+pub script-number-in :
+    One script.words.number_in.ended script.words.number_in.Reads.Asked script.words.number_in.Reads.Learnt
+script-number-in _ = record { nothing-asked = tt; one-answer = agree; one-left = λ p q. refl }
+
+pub script-value-in :
+    One script.words.value_in.ended script.words.value_in.Reads.Asked script.words.value_in.Reads.Learnt
+script-value-in _ = record { nothing-asked = tt; one-answer = agree; one-left = λ p q. refl }
+
+pub script-id-in :
+    One script.words.id_in.ended script.words.id_in.Reads.Asked script.words.id_in.Reads.Learnt
+script-id-in _ = record { nothing-asked = tt; one-answer = agree; one-left = λ p q. refl }
+
+pub script-code-in :
+    One script.words.code_in.ended script.words.code_in.Reads.Asked script.words.code_in.Reads.Learnt
+script-code-in _ = record { nothing-asked = tt; one-answer = agree; one-left = λ p q. refl }
+
+pub script-measure-in :
+    One script.words.measure_in.ended script.words.measure_in.Reads.Asked script.words.measure_in.Reads.Learnt
+script-measure-in _ = record { nothing-asked = tt; one-answer = agree; one-left = λ p q. refl }
+
+pub script-size-in :
+    One script.words.size_in.ended script.words.size_in.Reads.Asked script.words.size_in.Reads.Learnt
+script-size-in _ = record { nothing-asked = tt; one-answer = agree; one-left = λ p q. refl }
+
+pub script-is-empty-list :
+    One script.words.is_empty_list.ended script.words.is_empty_list.Reads.Asked script.words.is_empty_list.Reads.Learnt
+script-is-empty-list _ = record { nothing-asked = tt; one-answer = agree; one-left = λ p q. refl }
+
+pub script-measures :
+    One script.words.measures.ended script.words.measures.Reads.Asked script.words.measures.Reads.Learnt
+script-measures _ =
+    record { nothing-asked = tt; one-answer = λ p q. agree (p .0) (q .0); one-left = λ p q. ap (λ b. (tt, (b, tt))) (agree (p .1) (q .1)) }
+
+-- listing
+pub listing-list :
+    One listing.list.ended listing.list.Reads.Asked listing.list.Reads.Learnt
+listing-list _ = record { nothing-asked = tt; one-answer = agree; one-left = λ p q. refl }
+
+-- fummidrake
+pub fummidrake-open :
+    One fummidrake.fummidrake_open.ended fummidrake.fummidrake_open.Reads.Asked fummidrake.fummidrake_open.Reads.Learnt
+fummidrake-open _ = record { nothing-asked = tt; one-answer = agree; one-left = λ p q. refl }
+
+pub fummidrake-enter :
+    One fummidrake.fummidrake_enter.ended fummidrake.fummidrake_enter.Reads.Asked fummidrake.fummidrake_enter.Reads.Learnt
+fummidrake-enter _ = record { nothing-asked = tt; one-answer = agree; one-left = λ p q. refl }
+
+pub fummidrake-withdraw :
+    One fummidrake.fummidrake_withdraw.ended fummidrake.fummidrake_withdraw.Reads.Asked fummidrake.fummidrake_withdraw.Reads.Learnt
+fummidrake-withdraw _ = record { nothing-asked = tt; one-answer = agree; one-left = λ p q. refl }
+
+pub fummidrake-mark :
+    One fummidrake.fummidrake_mark.ended fummidrake.fummidrake_mark.Reads.Asked fummidrake.fummidrake_mark.Reads.Learnt
+fummidrake-mark _ = record { nothing-asked = tt; one-answer = agree; one-left = λ p q. refl }
+
+pub fummidrake-undo :
+    One fummidrake.fummidrake_undo.ended fummidrake.fummidrake_undo.Reads.Asked fummidrake.fummidrake_undo.Reads.Learnt
+fummidrake-undo _ = record { nothing-asked = tt; one-answer = agree; one-left = λ p q. refl }
+
+pub fummidrake-redo :
+    One fummidrake.fummidrake_redo.ended fummidrake.fummidrake_redo.Reads.Asked fummidrake.fummidrake_redo.Reads.Learnt
+fummidrake-redo _ = record { nothing-asked = tt; one-answer = agree; one-left = λ p q. refl }
+
+pub fummidrake-counts :
+    One fummidrake.fummidrake_counts.ended fummidrake.fummidrake_counts.Reads.Asked fummidrake.fummidrake_counts.Reads.Learnt
+fummidrake-counts _ = record { nothing-asked = tt; one-answer = agree; one-left = λ p q. refl }
+
+pub fummidrake-report :
+    One fummidrake.fummidrake_report.ended fummidrake.fummidrake_report.Reads.Asked fummidrake.fummidrake_report.Reads.Learnt
+fummidrake-report _ = record { nothing-asked = tt; one-answer = agree; one-left = λ p q. refl }
+
+pub fummidrake-is-open :
+    One fummidrake.fummidrake_is_open.ended fummidrake.fummidrake_is_open.Reads.Asked fummidrake.fummidrake_is_open.Reads.Learnt
+fummidrake-is-open _ = record { nothing-asked = tt; one-answer = agree; one-left = λ p q. refl }
+
+pub fummidrake-tonnage-length :
+    One fummidrake.fummidrake_tonnage_length.ended fummidrake.fummidrake_tonnage_length.Reads.Asked fummidrake.fummidrake_tonnage_length.Reads.Learnt
+fummidrake-tonnage-length _ = record { nothing-asked = tt; one-answer = agree; one-left = λ p q. refl }
+
+pub fummidrake-standing-count :
+    One fummidrake.fummidrake_standing_count.ended fummidrake.fummidrake_standing_count.Reads.Asked fummidrake.fummidrake_standing_count.Reads.Learnt
+fummidrake-standing-count _ = record { nothing-asked = tt; one-answer = agree; one-left = λ p q. refl }
+
+pub fummidrake-space-at :
+    One fummidrake.fummidrake_space_at.ended fummidrake.fummidrake_space_at.Reads.Asked fummidrake.fummidrake_space_at.Reads.Learnt
+fummidrake-space-at _ = record { nothing-asked = tt; one-answer = agree; one-left = λ p q. refl }
+
+pub fummidrake-stations :
+    One fummidrake.fummidrake_stations.ended fummidrake.fummidrake_stations.Reads.Asked fummidrake.fummidrake_stations.Reads.Learnt
+fummidrake-stations _ = record { nothing-asked = tt; one-answer = agree; one-left = λ p q. refl }
+
+pub fummidrake-breadths-at-station :
+    One fummidrake.fummidrake_breadths_at_station.ended fummidrake.fummidrake_breadths_at_station.Reads.Asked fummidrake.fummidrake_breadths_at_station.Reads.Learnt
+fummidrake-breadths-at-station _ = record { nothing-asked = tt; one-answer = agree; one-left = λ p q. refl }
+
+pub fummidrake-write :
+    One fummidrake.fummidrake_write.ended fummidrake.fummidrake_write.Reads.Asked fummidrake.fummidrake_write.Reads.Learnt
+fummidrake-write _ =
+    record { nothing-asked = tt; one-answer = λ p q. agree (p .0) (q .0); one-left = λ p q. ap (λ b. (tt, (tt, (b, (tt, tt))))) (agree (p .1) (q .1)) }
+
+pub fummidrake-read :
+    One fummidrake.fummidrake_read.ended fummidrake.fummidrake_read.Reads.Asked fummidrake.fummidrake_read.Reads.Learnt
+fummidrake-read _ = record { nothing-asked = tt; one-answer = agree; one-left = λ p q. refl }
+
+pub fummidrake-read-before :
+    One fummidrake.fummidrake_read_before.ended fummidrake.fummidrake_read_before.Reads.Asked fummidrake.fummidrake_read_before.Reads.Learnt
+fummidrake-read-before _ = record { nothing-asked = tt; one-answer = agree; one-left = λ p q. refl }
+
+pub fummidrake-list :
+    One fummidrake.fummidrake_list.ended fummidrake.fummidrake_list.Reads.Asked fummidrake.fummidrake_list.Reads.Learnt
+fummidrake-list _ = record { nothing-asked = tt; one-answer = agree; one-left = λ p q. refl }

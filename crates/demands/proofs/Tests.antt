@@ -1,7 +1,7 @@
 -- "The lowest number that applies is given", as one law over every list of numbered tests. Stands on measure_laws, Refusals.
 use Prim.Native.Nat.{ℕ, _<_, _≤_}
 use mathlib.Core.Path.{_≡_, refl}
-use mathlib.Core.Logic.{_↔_, ⊎-elim}
+use mathlib.Core.Logic.{⊎-elim}
 use mathlib.Core.Bool.{Bool, true, false, not, _||_}
 use mathlib.Core.List.{List, [], _∷_, _++_}
 use native.Mathlib.Omega.{arith}
@@ -10,24 +10,8 @@ use lib.Dec.{eqb}
 use Rattle.measure.specs.Refusals.{firstOf, Refuse, here, later, Accept}
 use Rattle.measure_laws.proofs.Refusals.{refused-with, accepted, judged}
 use Rattle.spaces.proofs.laws.Cases.{by-test}
-use Rattle.spaces_laws.proofs.Refusals.{Numbered}
-
--- ---- the statements
-
--- "in that order": refused with n exactly when test n applies and none before it, accepted exactly when none applies
-pub record FirstGiven (tests : List (Bool × ℕ)) (number : ℕ) : Type 0 where
-  pub refused-exactly : (n : ℕ) → 0 < n → (number ≡ n) ↔ Refuse tests n
-  pub accepted-exactly : (number ≡ 0) ↔ Accept tests
-
--- the condition of number n holds
-pub data Applies : List (Bool × ℕ) → ℕ → Type 0 where
-  first : {n : ℕ} {tests : List (Bool × ℕ)} → Applies ((true, n) ∷ tests) n
-  further : {test : Bool × ℕ} {tests : List (Bool × ℕ)} {n : ℕ} → Applies tests n → Applies (test ∷ tests) n
-
--- "The lowest number that applies": refused with n exactly when condition n holds and no lower one does, accepted exactly when none does
-pub record LowestGiven (tests : List (Bool × ℕ)) (number : ℕ) : Type 0 where
-  pub refused-exactly : (n : ℕ) → 0 < n → (number ≡ n) ↔ (Applies tests n × ((k : ℕ) → k < n → Applies tests k → ⊥))
-  pub accepted-exactly : (number ≡ 0) ↔ ((k : ℕ) → Applies tests k → ⊥)
+use Rattle.spaces_laws.proofs.Refusals.{Numbered, none-applies}
+use Rattle.demands.specs.Tests.{FirstGiven, Applies, first, further, LowestGiven}
 
 -- the numbers of the tests ascend, each over the one before it
 abbrev pub AscendFrom : ℕ → List (Bool × ℕ) → Type 0
@@ -36,10 +20,6 @@ AscendFrom below (test ∷ tests) = (below < test .1) × AscendFrom (test .1) te
 
 -- ---- in their order
 
-numbered-refusal : {tests : List (Bool × ℕ)} {n : ℕ} → Numbered tests → Refuse tests n → 0 < n
-numbered-refusal numbered here = numbered .0
-numbered-refusal numbered (later r) = numbered-refusal (numbered .1) r
-
 pub first-given : (tests : List (Bool × ℕ)) → Numbered tests → FirstGiven tests (firstOf tests)
 first-given tests numbered =
     record {
@@ -47,10 +27,7 @@ first-given tests numbered =
         λ e. ⊎-elim (λ (a : Accept tests). absurd (omega (arith, accepted a))) (λ (r : Refuse tests (firstOf tests)). rw e at r) (judged tests),
         λ r. refused-with r,
       );
-      accepted-exactly = (
-        λ e. ⊎-elim (λ (a : Accept tests). a) (λ (r : Refuse tests (firstOf tests)). absurd (omega (arith, numbered-refusal numbered r))) (judged tests),
-        λ a. accepted a,
-      );
+      accepted-exactly = (none-applies tests numbered, λ a. accepted a);
     }
 
 -- ---- the lowest

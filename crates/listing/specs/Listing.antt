@@ -5,7 +5,7 @@ use mathlib.Core.List.{List, _++_}
 use lib.Dec.{eqb, ltb}
 use lib.ListN.{length, replicate}
 use Rattle.script.specs.Text.{ascii}
-use Rattle.spaces.specs.Gross.{gross, net}
+use Rattle.standard.specs.Gross.{gross, net}
 use Rattle.sheet.specs.Sheet.{standing}
 use Rattle.sheet.specs.declared.sheet.Sheet.{Sheet}
 use Rattle.dayfile.specs.Reading.{readOf}

@@ -10,8 +10,8 @@ use Rattle.measure.specs.Volumes.{hundredths}
 use Rattle.measure.specs.Offsets.{measured}
 use Rattle.measure.specs.declared.offsets.Measured.{Measured}
 use Rattle.spaces.specs.Row.{find, placeOf, spaceWith, sumOf}
-use Rattle.spaces.specs.Rules.{entryTests, withdrawTests, markTests}
-use Rattle.spaces.specs.Gross.{gross, net, unjustified}
+use Rattle.standard.specs.Rules.{entryTests, withdrawTests, markTests}
+use Rattle.standard.specs.Gross.{gross, net, unjustified}
 use Rattle.spaces.specs.declared.space.Space.{Space}
 use Rattle.spaces.specs.declared.sums.Amount.the-variants.{Lengths}
 use Rattle.sheet.specs.Sheet.{standing, usable, changeOf, noChange, blank}

@@ -5,7 +5,7 @@ use mathlib.Core.Bool.{true, false, cond}
 use mathlib.Core.List.{List, []}
 use lib.Dec.{eqb}
 use Rattle.measure.specs.Ranges.{within, tonnageLengths}
-use Rattle.spaces.specs.Records.{firstRefused}
+use Rattle.standard.specs.Records.{firstRefused}
 use Rattle.spaces.specs.declared.space.Space.{Space}
 use Rattle.sheet.specs.Sheet.{blank}
 use Rattle.sheet.specs.Changes.{withStanding}

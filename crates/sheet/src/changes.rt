@@ -3,7 +3,7 @@ use crate::row::with_latest;
 use crate::row::with_place;
 use crate::row::without_place;
 use crate::sheet::Sheet;
-use spaces::row::least;
+use spaces::row::lesser;
 use spaces::space::Space;
 use spaces::space::empty;
 ghost use mathlib.Core.Path.{_≡_};
@@ -143,7 +143,7 @@ impl Sheet {
             return self;
         }
         let spaces = self.spaces;
-        let row = with_place(spaces, count, least(p, count), x);
+        let row = with_place(spaces, count, lesser(p, count), x);
         let mut next = self;
         next.spaces = row;
         next.count = count + 1;
@@ -177,7 +177,7 @@ impl Sheet {
         let row = with_latest(changes, n, latest);
         let mut next = self;
         next.changes = row;
-        next.undoable = least(n + 1, 64);
+        next.undoable = lesser(n + 1, 64);
         next.redoable = 0;
         next
     }

@@ -8,10 +8,10 @@ use native.Mathlib.Omega.{arith}
 use borrow.Author.Tests.{eqb-true, eqb-false}
 use lib.Dec.{eqb, ltb}
 use Rattle.measure.specs.Volumes.{hundredths}
-use Rattle.spaces.specs.Rules.{entryTests, entryNumber, withdrawTests, withdrawNumber, markTests, markNumber}
+use Rattle.standard.specs.Rules.{entryTests, entryNumber, withdrawTests, withdrawNumber, markTests, markNumber}
 use Rattle.spaces.proofs.laws.Cases.{by-test}
 use Rattle.spaces_laws.proofs.Valid.{valid-is-sound}
-use Rattle.spaces_laws.proofs.Changes.{without, marked as markedById}
+use Rattle.spaces_laws.specs.Changes.{without, marked as markedById}
 use Rattle.spaces_laws.proofs.Withdraw.{facts-of-withdrawal}
 use Rattle.spaces_laws.proofs.Mark.{facts-of-mark}
 use Rattle.sheet.specs.Sheet.{standing, usable}
@@ -20,9 +20,10 @@ use Rattle.sheet.specs.declared.sheet.Sheet.{Sheet}
 use Rattle.sheet.specs.declared.calls.Entry.{Entry}
 use Rattle.sheet.proofs.laws.Calls.{applies, passes, passed}
 use Rattle.sheet_laws.specs.Run.{spaceOf}
+use Rattle.sheet_laws.specs.Resumable.{Resumable}
 use Rattle.sheet_laws.proofs.Runs.{Rules}
 use Rattle.sheet_laws.proofs.Changes.{entry-leads, withdrawal-leads, mark-leads}
-use Rattle.sheet_laws.proofs.Resumable.{Resumable, resumable-entered, resumable-withdrawn, resumable-marked, entry-well-recorded}
+use Rattle.sheet_laws.proofs.Resumable.{resumable-entered, resumable-withdrawn, resumable-marked, entry-well-recorded}
 
 -- ---- what the number 0 says: none of 1 to 3 applied, and none of the rules of what stands
 

@@ -4,23 +4,23 @@
 use Prim.Native.Nat.{ℕ, _+_}
 use mathlib.Core.Path.{_≡_, refl, sym, ap, _∙_}
 use mathlib.Core.Bool.{true}
-use mathlib.Core.List.{List, []}
+use mathlib.Core.List.{List}
 use native.Mathlib.Omega.{arith}
 use Rattle.spaces.specs.declared.space.Space.{Space}
 use Rattle.spaces.specs.declared.sums.Amount.the-variants.{Deducted}
 use Rattle.spaces.specs.Row.{sumOf}
-use Rattle.spaces.specs.Valid.{Valid}
+use Rattle.standard.specs.Valid.{Valid}
 use Rattle.spaces_laws.proofs.Twice.{neither-above-the-other, taken-off-at-most-whole}
 use Rattle.spaces_laws.proofs.Report.{report-exact, net-at-most-gross}
 use Rattle.sheet.specs.Sheet.{standing, blank}
 use Rattle.sheet.specs.Changes.{withStanding}
-use Rattle.sheet.specs.Calls.{openedWith, reported}
-use Rattle.sheet.specs.Resume.{resumed}
+use Rattle.sheet.specs.Calls.{reported}
 use Rattle.sheet.specs.declared.sheet.Sheet.{Sheet}
 use Rattle.sheet.proofs.laws.Report.{given}
 use Rattle.sheet_laws.specs.Run.{after}
+use Rattle.sheet_laws.specs.Resumable.{Resumable, OfRecords}
 use Rattle.sheet_laws.specs.Holds.{Within, AfterAnyRun}
-use Rattle.sheet_laws.proofs.Resumable.{Resumable, resumable-exactly, OfRecords, opened-of-records, resumed-of-records}
+use Rattle.sheet_laws.proofs.Resumable.{resumable-exactly}
 use Rattle.sheet_laws.proofs.Runs.{history-after-any-run}
 use Rattle.sheet_laws.proofs.Accepted.{paper-rules}
 
@@ -48,12 +48,3 @@ after-any-run-from-records {L} {records} o calls =
       taken-off-at-most-whole = taken-off-at-most-whole v;
       report-within = given-within (after calls (withStanding records (blank true L))) v;
     })
-
--- so from one just opened, on which nothing stands
-pub after-any-run-from-opened : (L : ℕ) → openedWith L .number ≡ 0 → AfterAnyRun L [] (openedWith L .sheet)
-after-any-run-from-opened L z = after-any-run-from-records (opened-of-records L z)
-
--- and from one just resumed, on which its records stand
-pub after-any-run-from-resumed : (L : ℕ) (records : List Space) → resumed L records .number ≡ 0
-    → AfterAnyRun L records (resumed L records .sheet)
-after-any-run-from-resumed L records z = after-any-run-from-records (resumed-of-records L records z)

@@ -4,17 +4,22 @@ use Prim.Native.Nat.{ℕ}
 use mathlib.Core.Path.{_≡_, refl}
 use mathlib.Core.Bool.{true}
 use mathlib.Core.List.{List, [], _∷_}
+use native.Mathlib.Omega.{arith}
 use Rattle.measure.specs.Rounding.{nearest}
 use Rattle.measure.specs.Allowances.{hatchwayAllowance, hatchwayExcess, ballastOver}
 use Rattle.measure_laws.proofs.Figures as measured
-use Rattle.spaces.specs.Gross.{grossOver, gross, net, unjustified}
+use Rattle.spaces.specs.Row.{sumOf}
+use Rattle.standard.specs.Gross.{grossOver, gross, net, unjustified}
 use Rattle.spaces.specs.declared.space.Space.{Space}
+use Rattle.spaces.specs.declared.sums.Amount.the-variants.{Exempt}
+use Rattle.spaces_laws.specs.Gross.{GrossLess}
+use Rattle.spaces_laws.proofs.Report.{gross-less-is}
 use Rattle.sheet.specs.Sheet.{usable, blank}
 use Rattle.sheet.specs.Changes.{withStanding}
 use Rattle.sheet.specs.Calls.{reported}
 use Rattle.sheet.specs.declared.sheet.Sheet.{Sheet}
 
--- a U as long as the tonnage length 4800, a hatchway, and a water ballast room in the U, of these tonnages
+-- a U as long as the tonnage length 4800, a hatchway, a water ballast room in the U, and an exempt S, of these tonnages
 abbrev pub hull : ℕ → Space
 hull tonnage = record { id = 1; within = 0; kind = 1; standing = 0; tonnage = tonnage; length = 4800 }
 
@@ -23,6 +28,13 @@ hatchway tonnage = record { id = 2; within = 0; kind = 4; standing = 0; tonnage 
 
 abbrev pub ballast : ℕ → Space
 ballast tonnage = record { id = 3; within = 1; kind = 5; standing = 2; tonnage = tonnage; length = 500 }
+
+abbrev pub exempted : ℕ → Space
+exempted tonnage = record { id = 4; within = 0; kind = 3; standing = 1; tonnage = tonnage; length = 500 }
+
+-- spaces whose gross with only standing 1 taken off is 1000, and T 1200: 30% of T, or of what standing 2 leaves, would answer otherwise
+abbrev pub ballasted : ℕ → List Space
+ballasted tonnage = hull 1000 ∷ exempted 200 ∷ ballast tonnage ∷ []
 
 abbrev pub sheet : List Space → Sheet
 sheet xs = withStanding xs (blank true 4800)
@@ -33,9 +45,10 @@ pub record Starred : Type 0 where
   pub excess-100 : gross (hull 20000 ∷ hatchway 100 ∷ []) ≡ 20000
   pub excess-101 : gross (hull 20000 ∷ hatchway 101 ∷ []) ≡ 20001
   -- "ballast 300 / 301, where gross with only standing 1 taken off is 1000, not justified: given / 14"
-  pub ballast-300 : reported (sheet (hull 1000 ∷ ballast 300 ∷ [])) 0 .number ≡ 0
-  pub ballast-301 : reported (sheet (hull 1000 ∷ ballast 301 ∷ [])) 0 .number ≡ 14
-  pub justified-301 : reported (sheet (hull 1000 ∷ ballast 301 ∷ [])) 1 .number ≡ 0
+  pub gross-1000 : (n : ℕ) → GrossLess (sumOf Exempt (ballasted n)) (ballasted n) 1000
+  pub ballast-300 : reported (sheet (ballasted 300)) 0 .number ≡ 0
+  pub ballast-301 : reported (sheet (ballasted 301)) 0 .number ≡ 14
+  pub justified-301 : reported (sheet (ballasted 301)) 1 .number ≡ 0
 
 pub starred : Starred
 unfolding nearest hatchwayAllowance hatchwayExcess ballastOver grossOver gross net unjustified usable blank reported
@@ -44,6 +57,7 @@ starred =
       of-one-space = measured.figures;
       excess-100 = refl;
       excess-101 = refl;
+      gross-1000 = λ n. gross-less-is 200 (ballasted n) (omega arith);
       ballast-300 = refl;
       ballast-301 = refl;
       justified-301 = refl;

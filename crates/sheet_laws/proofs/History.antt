@@ -12,7 +12,7 @@ use lib.Dec.{leb}
 use lib.ListN.{length, take, drop, length-append, length-drop}
 use lib.Seq.{length-take-le, take-append-seam}
 use Rattle.spaces.specs.declared.space.Space.{Space}
-use Rattle.sheet.specs.Sheet.{standing, usable, kept, changeOf, kept-whole}
+use Rattle.sheet.specs.Sheet.{standing, usable, kept, kept-whole}
 use Rattle.sheet.specs.Changes.{apply, applyBack, withStanding, fitted, withChanges, latest, made, takenBack, noted}
 use Rattle.sheet.specs.Calls.{changeAt, changed, recounted}
 use Rattle.sheet.specs.declared.changes.Change.{Change}
@@ -92,7 +92,7 @@ module _ (Allowed : List Space → Type 0) (start : List Space) where
 
       -- a new change goes behind the undoable ones, and nothing is redoable
       pub kept-changed : {c : Change} {by-id : run.ChangeById} {ys : List Space} → Allowed ys → Leads c by-id (standing s) ys
-          → Kept L (changed c s) (run.noted by-id log) (run.oneMore k)
+          → Kept L (changed c s) (run.logChange by-id log) (run.oneMore k)
       unfolding noted
       kept-changed {c} {by-id} {ys} allowed l =
           let cs = s .changes in
@@ -103,7 +103,7 @@ module _ (Allowed : List Space → Type 0) (start : List Space) where
           let room : u ≤ length cs = omega (arith, h .open-places, h .open-fit) in
           let size : length all ≡ u + 1 = length-append (take u cs) (o ∷ []) ∙ ap (λ (n : ℕ). n + 1) (length-take-le u cs room) in
           let counted : length newest ≡ min 64 (u + 1) = omega (arith, length-drop (length all - 64) all, h .open-fit) in
-          subst (λ (t : Sheet). Kept L (noted c t) (run.noted by-id log) (run.oneMore k)) (sym (in-places (l .leads) allowed))
+          subst (λ (t : Sheet). Kept L (noted c t) (run.logChange by-id log) (run.oneMore k)) (sym (in-places (l .leads) allowed))
           (kept-with (h .opened) allowed
           (omega (arith, length-append newest (drop (length newest) cs), length-drop (length newest) cs, h .open-places))
           (omega arith)
@@ -115,12 +115,12 @@ module _ (Allowed : List Space → Type 0) (start : List Space) where
       -- undo: the last link of the one chain becomes the first of the other
       pub kept-undone : 0 < s .undoable
           → Kept L (recounted (s .undoable - 1) (s .redoable + 1) (takenBack (changeAt s (s .undoable - 1)) s))
-          (run.logged L run.undo log) (run.recounted run.undo k)
+          (run.logAfter L run.undo log) (run.countsAfter run.undo k)
       kept-undone some-left = back (h .to-undo) refl
         where
           back : {n : ℕ} {notUndone : List run.ChangeById} → Undoable Allowed start (s .changes) n (h .row) notUndone → n ≡ s .undoable
               → Kept L (recounted (s .undoable - 1) (s .redoable + 1) (takenBack (changeAt s (s .undoable - 1)) s))
-              (run.takenBack notUndone (log .undone)) (run.recounted run.undo k)
+              (run.logUndo notUndone (log .undone)) (run.countsAfter run.undo k)
           back (older q) e = absurd (omega arith)
           back (then {n = m} {xs = xs} {c = c} {log = earlier} allowed l to-undo) e =
               let u = s .undoable - 1 in
@@ -128,7 +128,7 @@ module _ (Allowed : List Space → Type 0) (start : List Space) where
               let now : s .undoable ≡ suc u = omega arith in
               let it : Leads (changeAt s u) c xs (h .row) = rw (← last) l in
               subst
-              (λ (t : Sheet). Kept L (recounted u (s .redoable + 1) t) (run.takenBack (c ∷ earlier) (log .undone)) (run.recounted run.undo k))
+              (λ (t : Sheet). Kept L (recounted u (s .redoable + 1) t) (run.logUndo (c ∷ earlier) (log .undone)) (run.countsAfter run.undo k))
               (sym (in-places (ap (applyBack (changeAt s u)) (h .stand) ∙ it .leads-back) allowed))
               (kept-with (h .opened) allowed (h .open-places) (omega (arith, h .open-fit))
               (rw last at to-undo)
@@ -139,17 +139,17 @@ module _ (Allowed : List Space → Type 0) (start : List Space) where
       -- redo: and the other way round
       pub kept-redone : 0 < s .redoable
           → Kept L (recounted (s .undoable + 1) (s .redoable - 1) (made (changeAt s (s .undoable)) s))
-          (run.logged L run.redo log) (run.recounted run.redo k)
+          (run.logAfter L run.redo log) (run.countsAfter run.redo k)
       kept-redone some-left = again (h .to-redo) refl
         where
           again : {n : ℕ} {undone : List run.ChangeById} → Redoable Allowed start (s .changes) (s .undoable) n (h .row) undone → n ≡ s .redoable
               → Kept L (recounted (s .undoable + 1) (s .redoable - 1) (made (changeAt s (s .undoable)) s))
-              (run.madeAgain (log .notUndone) undone) (run.recounted run.redo k)
+              (run.logRedo (log .notUndone) undone) (run.countsAfter run.redo k)
           again nothing e = absurd (omega arith)
           again (next {n = m} {c = c} {log = others} allowed l to-redo) e =
               let left : m ≡ s .redoable - 1 = omega arith in
               subst
-              (λ (t : Sheet). Kept L (recounted (s .undoable + 1) (s .redoable - 1) t) (run.madeAgain (log .notUndone) (c ∷ others)) (run.recounted run.redo k))
+              (λ (t : Sheet). Kept L (recounted (s .undoable + 1) (s .redoable - 1) t) (run.logRedo (log .notUndone) (c ∷ others)) (run.countsAfter run.redo k))
               (sym (in-places (ap (apply (changeAt s (s .undoable))) (h .stand) ∙ l .leads) allowed))
               (kept-with (h .opened) allowed (h .open-places) (omega (arith, h .open-fit))
               (rw add-one (then (h .allowed) l (h .to-undo)))

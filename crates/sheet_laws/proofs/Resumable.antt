@@ -16,27 +16,23 @@ use Rattle.measure.specs.declared.units.Hundredths.{Hundredths}
 use Rattle.measure.proofs.laws.Tests.{and-left, and-right}
 use Rattle.measure_laws.proofs.Offsets.{measured-exactly, measured-at-most}
 use Rattle.spaces.specs.declared.space.Space.{Space}
-use Rattle.spaces.specs.Rules.{entryTests, entryNumber, withdrawNumber, markNumber}
-use Rattle.spaces.specs.Valid.{ValidFrom, done, next, Valid}
+use Rattle.standard.specs.Rules.{entryTests, entryNumber, withdrawNumber, markNumber}
+use Rattle.standard.specs.Valid.{ValidFrom, done, next}
 use Rattle.spaces.proofs.laws.Cases.{by-test}
 use Rattle.spaces_laws.proofs.Tests.{or-fails-of}
-use Rattle.spaces_laws.proofs.Lists.{_∈_, all-snoc}
+use Rattle.spaces_laws.specs.Above.{_∈_}
+use Rattle.spaces_laws.proofs.Lists.{all-snoc}
 use Rattle.spaces_laws.proofs.Valid.{valid-entered}
-use Rattle.spaces_laws.proofs.Changes.{without, marking, marked}
+use Rattle.spaces_laws.specs.Changes.{without, marking, marked}
 use Rattle.spaces_laws.proofs.Withdraw.{withdrawal-by-id-keeps-valid}
 use Rattle.spaces_laws.proofs.Mark.{mark-by-id-keeps-valid}
 use Rattle.sheet.specs.Sheet.{blank}
-use Rattle.sheet.specs.Changes.{withStanding}
 use Rattle.sheet.specs.Calls.{openedWith, entryOf}
-use Rattle.spaces.specs.Records.{misrecorded, recordNumber, firstRefused}
+use Rattle.standard.specs.Records.{misrecorded, recordNumber, firstRefused}
 use Rattle.sheet.specs.Resume.{resumed}
-use Rattle.sheet.specs.declared.sheet.Sheet.{Sheet}
 use Rattle.sheet.specs.declared.calls.Entry.{Entry}
 use Rattle.sheet.proofs.laws.Calls.{passes, passed}
-
-pub record Resumable (L : ℕ) (xs : List Space) : Type 0 where
-  pub valid : Valid L xs
-  pub well-recorded : (y : Space) → y ∈ xs → misrecorded y ≡ false
+pub use Rattle.sheet_laws.specs.Resumable.{Resumable, OfRecords}
 
 -- ---- exactly those spaces of which no record is refused
 
@@ -71,11 +67,6 @@ resumable-exactly L xs = (
 )
 
 -- ---- a sheet of recorded spaces, on which no change is open yet
-
-pub record OfRecords (L : ℕ) (records : List Space) (s : Sheet) : Type 0 where
-  pub length-in-range : within tonnageLengths L ≡ true
-  pub resumable : Resumable L records
-  pub sheet-is : s ≡ withStanding records (blank true L)
 
 -- one just opened, on which nothing stands
 pub opened-of-records : (L : ℕ) → openedWith L .number ≡ 0 → OfRecords L [] (openedWith L .sheet)

@@ -21,7 +21,7 @@ use Rattle.sheet.specs.declared.sheet.Sheet.{Sheet}
 use Rattle.sheet.specs.declared.calls.Entry.{Entry}
 use Rattle.sheet.specs.declared.calls.Changed.{Changed}
 use Rattle.sheet.proofs.laws.Calls.{applies, passes, is-open, refused}
-use Rattle.sheet_laws.specs.Run.{Call, enter, withdraw, mark, undo, redo, counts, report, answer, after, accepted, ChangeById, spaceEntered, idWithdrawn, idMarked, Log, noLog, noted, spaceOf, logged, allLogged, logOf, OpenChanges, noneOpen, oneMore, recounted, allCounted, countsOf}
+use Rattle.sheet_laws.specs.Run.{Call, enter, withdraw, mark, undo, redo, counts, report, answer, after, accepted, ChangeById, spaceEntered, idWithdrawn, idMarked, Log, noLog, logChange, spaceOf, logAfter, logAfterAll, logOf, OpenChanges, noneOpen, oneMore, countsAfter, countsAfterAll, countsOf}
 use Rattle.sheet_laws.specs.Holds.{RefusedAtNil, HistoryHolds}
 use Rattle.sheet_laws.proofs.Undoable.{Leads, older, nothing, replayed}
 use Rattle.sheet_laws.proofs.History.{Opened, Kept, kept-usable, kept-with, kept-changed, kept-undone, kept-redone}
@@ -126,14 +126,14 @@ module _ (Allowed : ℕ → List Space → Type 0) (rules : Rules Allowed) (L : 
 
     -- an accepted change; what it is by id may hang on the tonnage length
     change-kept : {c : Change} (by-id : ℕ → ChangeById) → Fits (Allowed (s .length)) c (by-id (s .length)) (standing s)
-        → KeptSo (changed c s) (noted (by-id L) log) (oneMore k)
+        → KeptSo (changed c s) (logChange (by-id L) log) (oneMore k)
     change-kept {c} by-id fits =
         let f = subst (λ (l : ℕ). Fits (Allowed l) c (by-id l) (standing s)) (h .opened .length-kept) fits in
         kept-changed (Allowed L) start (rules .at-most-200 L) h (f .allowed) (f .leads)
 
   -- an accepted call: a change as the rules have it, undo and redo under any rules
   accepted-keeps : (c : Call) {s : Sheet} {log : Log} {k : OpenChanges} → KeptSo s log k → answer c s .number ≡ 0
-      → KeptSo (answer c s .sheet) (logged L c log) (recounted c k)
+      → KeptSo (answer c s .sheet) (logAfter L c log) (countsAfter c k)
   unfolding answer entered withdrawn marked undone redone counted reported
   accepted-keeps (enter e hs bs) {s} h z =
       rw (handed-next _ s _ z) (change-kept h (λ l. spaceEntered (spaceOf l e hs bs)) (rules .entry-fits s e hs bs (allowed-so h) z))
@@ -147,7 +147,7 @@ module _ (Allowed : ℕ → List Space → Type 0) (rules : Rules Allowed) (L : 
 
   -- call by call: a refused one leaves the sheet, the log and the counts as they are
   run-keeps : (calls : List Call) {s : Sheet} {log : Log} {k : OpenChanges} → KeptSo s log k
-      → KeptSo (after calls s) (allLogged L (accepted calls s) log) (allCounted (accepted calls s) k)
+      → KeptSo (after calls s) (logAfterAll L (accepted calls s) log) (countsAfterAll (accepted calls s) k)
   run-keeps [] h = h
   run-keeps (c ∷ calls) {s} {log} {k} h =
       by-test (eqb (answer c s .number) 0)

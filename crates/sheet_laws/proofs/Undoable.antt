@@ -11,13 +11,13 @@ use Rattle.sheet.specs.Sheet.{changeOf, noChange}
 use Rattle.sheet.specs.Changes.{apply, applyBack, latest}
 use Rattle.sheet.specs.declared.changes.Change.{Change}
 use Rattle.sheet.specs.declared.changes.OpenChange.{OpenChange}
-use Rattle.sheet_laws.specs.Run.{ChangeById, made, replay}
+use Rattle.sheet_laws.specs.Run.{ChangeById, outcome, replay}
 
 -- a change kept by its place, and one by id, lead from the spaces xs to the spaces ys; the one taken back leads back
 pub record Leads (c : Change) (by-id : ChangeById) (xs ys : List Space) : Type 0 where
   pub leads : apply c xs ≡ ys
   pub leads-back : applyBack c ys ≡ xs
-  pub the-same : made by-id xs ≡ ys
+  pub the-same : outcome by-id xs ≡ ys
 
 -- Allowed: what the rules allow to stand. start: what stood before the run
 module _ (Allowed : List Space → Type 0) (start : List Space) where
@@ -36,7 +36,7 @@ module _ (Allowed : List Space → Type 0) (start : List Space) where
   -- the spaces are those that the whole log leaves: each change is the same by id
   pub replayed : {cs : List OpenChange} {n : ℕ} {ys : List Space} {log : List ChangeById} → Undoable cs n ys log → ys ≡ replay log start
   replayed (older e) = e
-  replayed (then {c = c} allowed l u) = sym (l .the-same) ∙ ap (made c) (replayed u)
+  replayed (then {c = c} allowed l u) = sym (l .the-same) ∙ ap (outcome c) (replayed u)
 
   -- all but the oldest j are undoable still, where another list has them in its first places: the oldest join the older ones
   still-undoable : {cs : List OpenChange} (ds : List OpenChange) (j : ℕ) {m : ℕ} (n : ℕ) {ys : List Space} {log : List ChangeById} → m ≡ j + n

@@ -6,14 +6,13 @@ use mathlib.Core.List.{List, []}
 use lib.ListN.{length}
 use Rattle.spaces.specs.Space.{isPlain}
 use Rattle.spaces.specs.Row.{sumOf}
-use Rattle.spaces.specs.Gross.{exempt, gross}
+use Rattle.standard.specs.Gross.{exempt, gross}
 use Rattle.spaces.specs.declared.space.Space.{Space}
 use Rattle.spaces.specs.declared.sums.Amount.the-variants.{Hull, Deducted}
-use Rattle.spaces_laws.proofs.Lists.{_∈_}
-use Rattle.spaces_laws.proofs.Walk.{Above}
+use Rattle.spaces_laws.specs.Above.{_∈_, Above}
 use Rattle.sheet.specs.Sheet.{standing, usable}
 use Rattle.sheet.specs.Calls.{undone, redone, counted, reported}
-use Rattle.spaces.specs.Records.{firstRefused}
+use Rattle.standard.specs.Records.{firstRefused}
 use Rattle.sheet.specs.declared.sheet.Sheet.{Sheet}
 use Rattle.sheet.specs.declared.calls.Reported.{Reported}
 use Rattle.sheet_laws.specs.Run.{Call, after, Log, replay, logOf, OpenChanges, countsOf}
@@ -52,7 +51,7 @@ pub record Holds (L : ℕ) (start : List Space) (s : Sheet) (log : Log) (k : Ope
   pub history : HistoryHolds L start s log k
   -- each space standing, in order, is accepted as a record after those before it
   pub none-refused : firstRefused L [] (standing s) .number ≡ 0
-  -- "No volume is taken off twice": "of two standing spaces that aren't plain neither is anywhere above the other, and E + D is not
+  -- "no volume is taken off twice": "of two standing spaces that aren't plain neither is anywhere above the other, and E + D is not
   -- more than T"
   pub neither-above : (y z : Space) → y ∈ standing s → z ∈ standing s → isPlain y ≡ false → isPlain z ≡ false
       → (Above (standing s) y z → ⊥) × (Above (standing s) z y → ⊥)

@@ -7,7 +7,7 @@ use lib.Dec.{eqb}
 use Rattle.measure.specs.Volumes.{hundredths}
 use Rattle.measure.specs.Offsets.{measured}
 use Rattle.spaces.specs.declared.space.Space.{Space}
-use Rattle.spaces_laws.proofs.Changes.{without, marked as markedById}
+use Rattle.spaces_laws.specs.Changes.{without, marked as markedById}
 use Rattle.sheet.specs.Calls.{entryOf, entered, withdrawn, marked, undone, redone, counted, reported}
 use Rattle.sheet.specs.declared.sheet.Sheet.{Sheet}
 use Rattle.sheet.specs.declared.calls.Entry.{Entry}
@@ -55,15 +55,15 @@ pub data ChangeById : Type 0 where
   idMarked : ℕ → ℕ → ChangeById
 
 -- what a change makes of the spaces: a new one comes last in order of entry
-abbrev pub made : ChangeById → List Space → List Space
-made (spaceEntered x) xs = xs ++ (x ∷ [])
-made (idWithdrawn id) xs = without id xs
-made (idMarked id standing) xs = markedById id standing xs
+abbrev pub outcome : ChangeById → List Space → List Space
+outcome (spaceEntered x) xs = xs ++ (x ∷ [])
+outcome (idWithdrawn id) xs = without id xs
+outcome (idMarked id standing) xs = markedById id standing xs
 
 -- changes made in order. The latest is named first, and is made on what the earlier ones leave
 abbrev pub replay : List ChangeById → List Space → List Space
 replay [] xs = xs
-replay (c ∷ earlier) xs = made c (replay earlier xs)
+replay (c ∷ earlier) xs = outcome c (replay earlier xs)
 
 -- ---- the log
 
@@ -76,40 +76,40 @@ abbrev pub noLog : Log
 noLog = record { notUndone = []; undone = [] }
 
 -- a new change: those undone before it stay undone for good
-abbrev pub noted : ChangeById → Log → Log
-noted c log = record { notUndone = c ∷ log .notUndone; undone = [] }
+abbrev pub logChange : ChangeById → Log → Log
+logChange c log = record { notUndone = c ∷ log .notUndone; undone = [] }
 
 -- "Undo takes back the latest accepted change not undone"
-abbrev pub takenBack : List ChangeById → List ChangeById → Log
-takenBack [] undone = record { notUndone = []; undone = undone }
-takenBack (c ∷ earlier) undone = record { notUndone = earlier; undone = c ∷ undone }
+abbrev pub logUndo : List ChangeById → List ChangeById → Log
+logUndo [] undone = record { notUndone = []; undone = undone }
+logUndo (c ∷ earlier) undone = record { notUndone = earlier; undone = c ∷ undone }
 
 -- "redo makes again the change last undone, which is then undone no longer"
-abbrev pub madeAgain : List ChangeById → List ChangeById → Log
-madeAgain notUndone [] = record { notUndone = notUndone; undone = [] }
-madeAgain notUndone (c ∷ others) = record { notUndone = c ∷ notUndone; undone = others }
+abbrev pub logRedo : List ChangeById → List ChangeById → Log
+logRedo notUndone [] = record { notUndone = notUndone; undone = [] }
+logRedo notUndone (c ∷ others) = record { notUndone = c ∷ notUndone; undone = others }
 
 -- the space of an entry, measured from its offsets, where L is the tonnage length
 abbrev pub spaceOf : ℕ → Entry → List ℕ → List ℕ → Space
 spaceOf L e heights breadths = entryOf e (measured (e .kind) (hundredths L) (hundredths (e .length)) heights breadths .tonnage)
 
 -- what an accepted call makes of the log
-abbrev pub logged : ℕ → Call → Log → Log
-logged L (enter e heights breadths) log = noted (spaceEntered (spaceOf L e heights breadths)) log
-logged L (withdraw id) log = noted (idWithdrawn id) log
-logged L (mark id standing) log = noted (idMarked id standing) log
-logged L undo log = takenBack (log .notUndone) (log .undone)
-logged L redo log = madeAgain (log .notUndone) (log .undone)
-logged L counts log = log
-logged L (report justified) log = log
+abbrev pub logAfter : ℕ → Call → Log → Log
+logAfter L (enter e heights breadths) log = logChange (spaceEntered (spaceOf L e heights breadths)) log
+logAfter L (withdraw id) log = logChange (idWithdrawn id) log
+logAfter L (mark id standing) log = logChange (idMarked id standing) log
+logAfter L undo log = logUndo (log .notUndone) (log .undone)
+logAfter L redo log = logRedo (log .notUndone) (log .undone)
+logAfter L counts log = log
+logAfter L (report justified) log = log
 
-abbrev pub allLogged : ℕ → List Call → Log → Log
-allLogged L [] log = log
-allLogged L (c ∷ calls) log = allLogged L calls (logged L c log)
+abbrev pub logAfterAll : ℕ → List Call → Log → Log
+logAfterAll L [] log = log
+logAfterAll L (c ∷ calls) log = logAfterAll L calls (logAfter L c log)
 
 -- the log of a run from a sheet
 abbrev pub logOf : ℕ → List Call → Sheet → Log
-logOf L calls s = allLogged L (accepted calls s) noLog
+logOf L calls s = logAfterAll L (accepted calls s) noLog
 
 -- ---- the counts
 
@@ -126,20 +126,20 @@ abbrev pub oneMore : OpenChanges → OpenChanges
 oneMore k = record { undoable = min 64 (k .undoable + 1); redoable = 0 }
 
 -- what an accepted call makes of the counts
-abbrev pub recounted : Call → OpenChanges → OpenChanges
-recounted (enter e heights breadths) k = oneMore k
-recounted (withdraw id) k = oneMore k
-recounted (mark id standing) k = oneMore k
+abbrev pub countsAfter : Call → OpenChanges → OpenChanges
+countsAfter (enter e heights breadths) k = oneMore k
+countsAfter (withdraw id) k = oneMore k
+countsAfter (mark id standing) k = oneMore k
 -- "Undo .. takes one from undoable and adds it to redoable; redo .. counts the opposite way"
-recounted undo k = record { undoable = k .undoable - 1; redoable = k .redoable + 1 }
-recounted redo k = record { undoable = k .undoable + 1; redoable = k .redoable - 1 }
-recounted counts k = k
-recounted (report justified) k = k
+countsAfter undo k = record { undoable = k .undoable - 1; redoable = k .redoable + 1 }
+countsAfter redo k = record { undoable = k .undoable + 1; redoable = k .redoable - 1 }
+countsAfter counts k = k
+countsAfter (report justified) k = k
 
-abbrev pub allCounted : List Call → OpenChanges → OpenChanges
-allCounted [] k = k
-allCounted (c ∷ calls) k = allCounted calls (recounted c k)
+abbrev pub countsAfterAll : List Call → OpenChanges → OpenChanges
+countsAfterAll [] k = k
+countsAfterAll (c ∷ calls) k = countsAfterAll calls (countsAfter c k)
 
 -- the counts after a run from a sheet
 abbrev pub countsOf : List Call → Sheet → OpenChanges
-countsOf calls s = allCounted (accepted calls s) noneOpen
+countsOf calls s = countsAfterAll (accepted calls s) noneOpen

@@ -1,12 +1,11 @@
 -- Laws of the definitions in specs/, that the functions' proofs and the floors above cite.
 pub mod Cases
-pub mod Standing
 pub mod Row
 pub mod Sums
 pub mod Found
 pub mod Enclosure
 pub mod Places
+pub mod Below
 pub mod Index
 pub mod Climb
 pub mod Around
-pub mod Records

@@ -8,6 +8,7 @@ use lib.ListN.{length}
 use Rattle.spaces.specs.Space.{isRoom, isPlain}
 use Rattle.spaces.specs.Row.{find}
 use Rattle.spaces.specs.declared.space.Space.{Space}
+use Rattle.spaces.specs.declared.enclosure.Above.{Above}
 
 -- "Only a room has an enclosing space": the standing space with its enclosing id
 abbrev pub enclosing : List Space → Space → Option Space
@@ -34,6 +35,10 @@ level xs x = length (above xs x) + 1
 abbrev pub allPlain : List Space → Bool
 allPlain [] = true
 allPlain (z ∷ zs) = isPlain z && allPlain zs
+
+-- what a walk that meets these spaces tells: how many there are, and whether all are plain
+abbrev pub walked : List Space → Above
+walked zs = record { levels = length zs; plain = allPlain zs }
 
 -- an id is that of one of these
 abbrev pub among : ℕ → List Space → Bool

@@ -1,5 +1,5 @@
 -- The standing spaces in order of entry: finding one by its id, and sums over them.
-use Prim.Native.Nat.{ℕ, suc, _+_, min}
+use Prim.Native.Nat.{ℕ, suc, _+_, _*_, _^_, _≤_, min}
 use mathlib.Core.Bool.{Bool, true, false, cond, _&&_}
 use mathlib.Core.List.{List, [], _∷_}
 use mathlib.Core.Option.{Option, none, some}
@@ -10,6 +10,7 @@ use Rattle.spaces.specs.declared.row.Found.{Found}
 use Rattle.spaces.specs.declared.row.Found.the-variants.{At, Nothing}
 use Rattle.spaces.specs.declared.sums.Amount.{Amount}
 use Rattle.spaces.specs.declared.sums.Amount.the-variants.{Inside, Rooms, Lengths, Hull, Hatchways, Exempt, Ballast, Deducted}
+use Rattle.spaces.specs.declared.sums.Totals.{Totals}
 
 -- how many of the 200 places are used, where a sheet says `count`
 abbrev pub used : ℕ → ℕ
@@ -67,3 +68,27 @@ sumBy f (x ∷ xs) = f x + sumBy f xs
 
 abbrev pub sumOf : Amount → List Space → ℕ
 sumOf a xs = sumBy (amountOf a) xs
+
+-- all that a report works with
+unfoldable pub totalsOf : List Space → Totals
+totalsOf xs =
+    record {
+      lengths = sumOf Lengths xs;
+      hull = sumOf Hull xs;
+      hatchways = sumOf Hatchways xs;
+      exempt = sumOf Exempt xs;
+      ballast = sumOf Ballast xs;
+      deducted = sumOf Deducted xs;
+    }
+
+-- no sum over 200 places passes this: no tonnage or length has more than 32 bits
+abbrev pub mostSum : ℕ
+mostSum = 200 * 2 ^ 32
+
+pub record EachAtMost (most : ℕ) (sums : Totals) : Type 0 where
+  pub lengths : sums .lengths ≤ most
+  pub hull : sums .hull ≤ most
+  pub hatchways : sums .hatchways ≤ most
+  pub exempt : sums .exempt ≤ most
+  pub ballast : sums .ballast ≤ most
+  pub deducted : sums .deducted ≤ most

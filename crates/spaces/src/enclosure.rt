@@ -1,21 +1,20 @@
 // The chain upward ("Enclosure"): walked one enclosing space at a time, for levels and for the standings above; and
 // followed by places, for the standings below.
-use crate::index::places;
-use crate::row::Found;
-use crate::row::find;
+use crate::index::enclosing_places;
 use crate::row::place_of;
 use crate::row::used;
 use crate::space::ROOM;
 use crate::space::Space;
+use crate::sums::Amount;
+use crate::sums::sum;
 ghost use mathlib.Core.Path.{_≡_};
 ghost use mathlib.Core.Bool.{not, _&&_};
-ghost use mathlib.Core.List.{_∷_};
+ghost use mathlib.Core.List.{[]};
 ghost use Prim.Native.Nat.{_≤_, _<_};
 ghost use lib.ListN.{take};
 ghost use Rattle.spaces.specs.Space.{isPlain};
-ghost use Rattle.spaces.specs.Row.{foundAs};
-ghost use Rattle.spaces.specs.Enclosure.{enclosing as enclosingIn, onward, upward, allPlain, below};
-ghost use Rattle.spaces.specs.Handed.{searched, walked, pastOf, climbed, leadsTo};
+ghost use Rattle.spaces.specs.Enclosure.{upward, above as aboveOf, allPlain, below, walked};
+ghost use Rattle.spaces.specs.Handed.{pastOf, climbed, leadsTo};
 
 // What a walk upward met: how many spaces, and whether all are plain.
 pub struct Above {
@@ -24,60 +23,51 @@ pub struct Above {
 }
 
 // A space is at most at level 8.
-pub(crate) const LEVELS: usize = 8;
+pub const LEVELS: usize = 8;
 
-pub(crate) fn enclosing(spaces: [Space; 200], count: usize, x: Space) -> Found
-    ensures { λ r. ⌜ r ≡ foundAs (enclosingIn (take count spaces) x) ⌝ }
+// What is above a space with nothing above it.
+fn nothing() -> Above
+    ensures { λ r. ⌜ r ≡ walked [] ⌝ }
 {
-    if x.kind == ROOM {
-        return find(spaces, count, x.within);
+    Above {
+        levels: 0,
+        plain: true,
     }
-    Found::Nothing
 }
 
-// From a space upward to level 1, with `left` levels left.
-pub(crate) fn walk(spaces: [Space; 200], count: usize, x: Space, left: usize) -> Above
+// From a space upward to level 1, with `left` levels left. The search for the enclosing space stands in the walk itself: a
+// function of its own would have all the spaces handed on twice a level.
+fn walk(spaces: [Space; 200], count: usize, x: Space, left: usize) -> Above
     requires { ⌜ left ≤ 8 ⌝ }
     ensures { λ r. ⌜ r ≡ walked (upward left (take count spaces) x) ⌝ }
 {
     if left == 0 {
-        return Above {
-            levels: 0,
-            plain: true,
-        };
+        return nothing();
     }
-    let found = enclosing(spaces, count, x);
-    match found {
-        Found::At(z) => {
+    if x.kind != ROOM {
+        return nothing();
+    }
+    let n = used(count);
+    let mut i = 0;
+    while i < n {
+        let z = spaces[i];
+        if z.id == x.within {
             let further = walk(spaces, count, z, left - 1);
-            past(z.standing, further)
+            return past(z.standing, further);
         }
-        Found::Nothing => Above {
-            levels: 0,
-            plain: true,
-        },
+        i += 1;
     }
+    nothing()
 }
 
-// What is above a space whose enclosing space has been looked up: the row of spaces is handed on only where there is one.
-pub(crate) fn all_above(spaces: [Space; 200], count: usize, found: Found) -> Above
-    ensures { λ r. ⌜ r ≡ walked (onward (searched found) (λ z. upward 7 (take count spaces) z)) ⌝ }
+// What is above a space, at most 8 levels of it.
+pub fn all_above(spaces: [Space; 200], count: usize, x: Space) -> Above
+    ensures { λ r. ⌜ r ≡ walked (aboveOf (take count spaces) x) ⌝ }
 {
-    match found {
-        Found::At(z) => from_enclosing(spaces, count, z),
-        Found::Nothing => Above {
-            levels: 0,
-            plain: true,
-        },
+    if x.kind == ROOM {
+        return walk(spaces, count, x, LEVELS);
     }
-}
-
-// The walk that meets the enclosing space z first.
-fn from_enclosing(spaces: [Space; 200], count: usize, z: Space) -> Above
-    ensures { λ r. ⌜ r ≡ walked (z ∷ upward 7 (take count spaces) z) ⌝ }
-{
-    let further = walk(spaces, count, z, LEVELS - 1);
-    past(z.standing, further)
+    nothing()
 }
 
 // A walk that goes past a space of a standing first.
@@ -109,29 +99,32 @@ pub(crate) fn climb(
     ensures { λ r. ⌜ r ≡ climbed left most (now (places .entry)) (now (standings .entry)) at ⌝ }
 {
     if left == 0 {
-        return Above {
-            levels: 0,
-            plain: true,
-        };
+        return nothing();
     }
     let next = places[at];
     if most <= next {
-        return Above {
-            levels: 0,
-            plain: true,
-        };
+        return nothing();
     }
     let further = climb(places, standings, most, next, left - 1);
     past(standings[next], further)
 }
 
-// Whether all the spaces that the one with an id is above are plain. The chains are followed in a row of places, which is
+// Whether all the spaces that the one with an id is above are plain: none is below where no room is directly inside. The chains are followed in a row of places, which is
 // lent: the walk hands all the spaces on by value at each level, too dear for 200 of them.
-pub(crate) fn plain_below(spaces: [Space; 200], count: usize, id: u16) -> bool
+pub fn plain_below(spaces: [Space; 200], count: usize, id: u16) -> bool
+    ensures { λ r. ⌜ r ≡ allPlain (below id (take count spaces)) ⌝ }
+{
+    if sum(spaces, count, Amount::Rooms(id)) == 0 {
+        return true;
+    }
+    plain_chains(spaces, count, id)
+}
+
+fn plain_chains(spaces: [Space; 200], count: usize, id: u16) -> bool
     ensures { λ r. ⌜ r ≡ allPlain (below id (take count spaces)) ⌝ }
 {
     let n = used(count);
-    let homes = places(spaces, n, false);
+    let homes = enclosing_places(spaces, n);
     let to = place_of(spaces, count, id);
     let mut i = 0;
     while i < n {

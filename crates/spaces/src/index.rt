@@ -5,7 +5,7 @@ use crate::space::Space;
 ghost use mathlib.Core.Path.{_≡_};
 ghost use Prim.Native.Nat.{_≤_};
 ghost use lib.ListN.{length, take, replicate};
-ghost use Rattle.spaces.specs.Handed.{idsOf, standingsOf, placeIn, Indexed, Places, askedIn};
+ghost use Rattle.spaces.specs.Handed.{idsOf, standingsOf, placeIn, Indexed, Places, EnclosingPlaces, askedIn};
 
 // The ids of the spaces, in their order.
 pub(crate) fn ids_of(spaces: [Space; 200]) -> [u16; 200]
@@ -78,23 +78,36 @@ fn place_in(ids: &[u16], n: usize, id: u16) -> usize
     n
 }
 
-// For each of the first n spaces a place: that at which its own id stands first, or that of its enclosing space. The index has a byte
-// for each id that may stand, up to 9,999.
-pub(crate) fn places(spaces: [Space; 200], n: usize, own: bool) -> [usize; 200]
-    requires { ⌜ n ≤ 200 ⌝ }
+// For each of the first n spaces a place: that at which its own id stands first, or that of its enclosing space.
+pub(crate) fn places(
+    spaces: [Space; 200],
+    n: usize,
+    own: bool,
+    index: &[u8; 10000],
+    ids: &[u16; 200],
+) -> [usize; 200]
+    requires { ⌜ (n ≤ 200) × (now ids ≡ idsOf spaces) × Indexed (take n (now ids)) (now index) ⌝ }
     ensures { λ r. ⌜ Places own (take n spaces) r ⌝ }
 {
-    let ids = ids_of(spaces);
-    let mut index = [n as u8; 10000];
-    index_ids(&ids, n, &mut index);
     let mut found = [0usize; 200];
     let mut i = 0;
     while i < n {
         let x = spaces[i];
-        found[i] = place_asked(x, own, &index, &ids, n);
+        found[i] = place_asked(x, own, index, ids, n);
         i += 1;
     }
     found
+}
+
+// The places of the enclosing spaces. The index has a byte for each id that may stand, up to 9,999.
+pub(crate) fn enclosing_places(spaces: [Space; 200], n: usize) -> [usize; 200]
+    requires { ⌜ n ≤ 200 ⌝ }
+    ensures { λ r. ⌜ EnclosingPlaces (take n spaces) r ⌝ }
+{
+    let ids = ids_of(spaces);
+    let mut index = [n as u8; 10000];
+    index_ids(&ids, n, &mut index);
+    places(spaces, n, false, &index, &ids)
 }
 
 // The place asked of a space, from 0; n where there is none.

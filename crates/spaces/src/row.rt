@@ -12,7 +12,7 @@ pub enum Found {
 }
 
 // The lesser of two numbers.
-pub fn least(a: usize, b: usize) -> usize
+pub fn lesser(a: usize, b: usize) -> usize
     ensures { λ r. ⌜ r ≡ min a b ⌝ }
 {
     if a < b {
@@ -25,7 +25,7 @@ pub fn least(a: usize, b: usize) -> usize
 pub fn used(count: usize) -> usize
     ensures { λ r. ⌜ r ≡ usedOf count ⌝ }
 {
-    least(count, 200)
+    lesser(count, 200)
 }
 
 pub fn find(spaces: [Space; 200], count: usize, id: u16) -> Found

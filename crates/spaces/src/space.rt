@@ -1,6 +1,6 @@
-// A space as its record has it, and the table of standings ("Spaces").
+// A space as its record has it ("Spaces").
 ghost use mathlib.Core.Path.{_≡_};
-ghost use Rattle.spaces.specs.Space.{emptySpace, mayTake};
+ghost use Rattle.spaces.specs.Space.{emptySpace};
 
 #[repr(C)]
 pub struct Space {
@@ -25,15 +25,6 @@ pub const HATCHWAY: u8 = 4;
 
 pub const ROOM: u8 = 5;
 
-// Which kind may have which standing: a row for each kind from 1, a column for each standing from 0.
-const STANDINGS: [[bool; 4]; 5] = [
-    [true, false, false, false],
-    [true, true, false, false],
-    [true, true, false, false],
-    [true, false, false, false],
-    [true, true, true, true],
-];
-
 // The record of a free place.
 pub fn empty() -> Space
     ensures { λ r. ⌜ r ≡ emptySpace ⌝ }
@@ -46,22 +37,4 @@ pub fn empty() -> Space
         tonnage: 0,
         length: 0,
     }
-}
-
-// Whether a kind may have a standing; no, where one of them is outside the table.
-pub fn may_take(kind: u8, standing: u8) -> bool
-    ensures { λ r. ⌜ r ≡ mayTake kind standing ⌝ }
-{
-    if kind < 1 {
-        return false;
-    }
-    if 5 < kind {
-        return false;
-    }
-    if 3 < standing {
-        return false;
-    }
-    let row = (kind - 1) as usize;
-    let column = standing as usize;
-    STANDINGS[row][column]
 }

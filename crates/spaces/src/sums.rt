@@ -8,12 +8,12 @@ use crate::space::Space;
 use crate::space::UNDER_DECK;
 ghost use mathlib.Core.Path.{_≡_};
 ghost use mathlib.Core.Bool.{_&&_};
-ghost use Prim.Native.Nat.{_<_, _^_};
+ghost use Prim.Native.Nat.{_≤_, _<_, _^_};
 ghost use lib.Dec.{eqb};
 ghost use lib.ListN.{take};
 ghost use Rattle.spaces.specs.Space.{isRoom, isHull};
-ghost use Rattle.spaces.specs.Row.{only as onlyOf, amountOf};
-ghost use Rattle.spaces.specs.Handed.{IsSum, AreTotals, FewSpaces, AddedTo};
+ghost use Rattle.spaces.specs.Row.{only as onlyOf, amountOf, sumOf, mostSum, totalsOf, EachAtMost};
+ghost use Rattle.spaces.specs.Handed.{AddedTo};
 
 pub enum Amount {
     // The tonnages of the rooms directly inside the space with an id, and their number.
@@ -82,8 +82,8 @@ pub(crate) fn share(which: Amount, x: Space) -> u64
     }
 }
 
-pub(crate) fn sum(spaces: [Space; 200], count: usize, which: Amount) -> u64
-    ensures { λ r. ⌜ IsSum which (take count spaces) r ⌝ }
+pub fn sum(spaces: [Space; 200], count: usize, which: Amount) -> u64
+    ensures { λ r. ⌜ (r ≡ sumOf which (take count spaces)) × (r ≤ mostSum) ⌝ }
 {
     let n = used(count);
     let mut total: u64 = 0;
@@ -97,8 +97,8 @@ pub(crate) fn sum(spaces: [Space; 200], count: usize, which: Amount) -> u64
 }
 
 // The sums of a report, in one loop: each call hands on all the places.
-pub(crate) fn total_up(spaces: [Space; 200], count: usize) -> Totals
-    ensures { λ r. ⌜ AreTotals (take count spaces) r ⌝ }
+pub fn total_up(spaces: [Space; 200], count: usize) -> Totals
+    ensures { λ r. ⌜ (r ≡ totalsOf (take count spaces)) × EachAtMost mostSum r ⌝ }
 {
     let n = used(count);
     let mut sums = Totals {
@@ -120,7 +120,7 @@ pub(crate) fn total_up(spaces: [Space; 200], count: usize) -> Totals
 
 // The sums with one space more.
 fn with_space(sums: Totals, x: Space) -> Totals
-    requires { ⌜ FewSpaces sums ⌝ }
+    requires { ⌜ EachAtMost mostSum sums ⌝ }
     ensures { λ r. ⌜ AddedTo sums x r ⌝ }
 {
     Totals {

@@ -1,43 +1,27 @@
 -- An entry is accepted (none of 4 to 10 applies) exactly where the facts of `Accepted` hold. Stands on Refusals, Lists, Walk.
-use Prim.Native.Nat.{ℕ, _+_, _≤_, _<_}
+use Prim.Native.Nat.{ℕ, _+_, _≤_}
 use mathlib.Core.Path.{_≡_, ap, _∙_}
 use mathlib.Core.Bool.{true, false, not, _&&_, _||_}
 use mathlib.Core.List.{List}
-use mathlib.Core.Option.{none, some}
+use mathlib.Core.Option.{some}
 use native.Mathlib.Omega.{arith}
 use borrow.Author.Tests.{ltb-false, leb-false, le-ltb, lt-leb, not-true, not-false}
 use lib.Dec.{ltb}
 use lib.ListN.{length}
+use Rattle.measure.specs.Refusals.{none as no-more}
+use Rattle.measure_laws.proofs.Refusals.{accepted}
 use Rattle.spaces.specs.declared.space.Space.{Space}
 use Rattle.spaces.specs.declared.sums.Amount.the-variants.{Inside, Lengths}
-use Rattle.spaces.specs.Space.{isUnderDeck, isHatchway, isRoom, isPlain, mayTake}
+use Rattle.spaces.specs.Space.{isUnderDeck, isRoom}
 use Rattle.spaces.specs.Row.{find, isSome, sumOf}
-use Rattle.spaces.specs.Enclosure.{enclosing, above, level, allPlain}
-use Rattle.spaces.specs.Rules.{idRefused, unhoused, inHatchway, misplaced, tooDeep, offTwice, passesEnclosing, overfull, noPlace, entryTests, entryNumber}
+use Rattle.spaces.specs.Enclosure.{enclosing}
+use Rattle.standard.specs.Rules.{idRefused, unhoused, inHatchway, misplaced, tooDeep, offTwice, passesEnclosing, overfull, noPlace, entryTests, entryNumber}
 use Rattle.spaces.proofs.laws.Cases.{by-test, or-fails}
+use Rattle.spaces_laws.specs.Accepted.{Enclosed, Accepted}
 use Rattle.spaces_laws.proofs.Tests.{or-fails-of, and-fails, and-fails-of}
-use Rattle.spaces_laws.proofs.Refusals.{none-applies, accepted-of-none}
+use Rattle.spaces_laws.proofs.Refusals.{none-applies, apart, together}
 use Rattle.spaces_laws.proofs.Lists.{some-of, none-of}
 use Rattle.spaces_laws.proofs.Walk.{enclosing-of-other, enclosing-of-room}
-
--- a room's enclosing space: it stands, and is no hatchway
-pub record Enclosed (xs : List Space) (x : Space) : Type 0 where
-  pub home : Space
-  pub home-stands : find (x .within) xs ≡ some home
-  pub no-hatchway : isHatchway home ≡ false
-
--- what the numbers 4 to 10 leave of an entry
-pub record Accepted (L : ℕ) (xs : List Space) (x : Space) : Type 0 where
-  pub id-at-least : 1 ≤ x .id
-  pub id-at-most : x .id ≤ 9999
-  pub id-free : find (x .id) xs ≡ none
-  pub enclosed : isRoom x ≡ true → Enclosed xs x
-  pub may-take : mayTake (x .kind) (x .standing) ≡ true
-  pub level-at-most : level xs x ≤ 8
-  pub plain-above : isPlain x ≡ false → allPlain (above xs x) ≡ true
-  pub rooms-fit : (r : isRoom x ≡ true) → sumOf (Inside (x .within)) xs + x .tonnage ≤ enclosed r .home .tonnage
-  pub lengths-fit : isUnderDeck x ≡ true → sumOf Lengths xs + x .length ≤ L
-  pub place-left : length xs < 200
 
 -- the tests that look at the enclosing space
 module _ (xs : List Space) (x : Space) where
@@ -68,7 +52,13 @@ module _ (xs : List Space) (x : Space) where
 pub facts-of-entry : (L : ℕ) (xs : List Space) (x : Space) → entryNumber L xs x ≡ 0 → Accepted L xs x
 unfolding entryNumber
 facts-of-entry L xs x e =
-    let (id-free, (housed, (placed, (shallow, (once, (room-left, (place-left, _))))))) = none-applies (entryTests L xs x) (omega arith) e in
+    let (id-free, from-5) = apart (none-applies (entryTests L xs x) (omega arith) e) in
+    let (housed, from-6) = apart from-5 in
+    let (placed, from-7) = apart from-6 in
+    let (shallow, from-8) = apart from-7 in
+    let (once, from-9) = apart from-8 in
+    let (room-left, from-10) = apart from-9 in
+    let (place-left, _) = apart from-10 in
     let ids = or-fails _ _ id-free in
     let range = or-fails _ _ (ids .0) in
     let takes = or-fails _ _ placed in
@@ -98,4 +88,5 @@ entry-of-facts L xs x a =
     let lengths : (isUnderDeck x && ltb L (sumOf Lengths xs + x .length)) ≡ false = and-fails-of _ _ (λ u. le-ltb _ _ (a .lengths-fit u)) in
     let fits : overfull L xs x ≡ false = or-fails-of _ _ (not-passed xs x (a .enclosed) (a .rooms-fit)) lengths in
     let place : noPlace xs ≡ false = lt-leb _ _ (a .place-left) in
-    accepted-of-none (entryTests L xs x) (id-free, (housed xs x (a .enclosed), (placed, (shallow, (once, (fits, (place, tt)))))))
+    let from-7 = together shallow (together once (together fits (together place no-more))) in
+    accepted (together id-free (together (housed xs x (a .enclosed)) (together placed from-7)))

@@ -5,7 +5,7 @@ pub mod Lists
 pub mod Walk
 pub mod Entry
 pub mod Valid
-pub mod Changes
+pub mod Levels
 pub mod Withdraw
 pub mod Mark
 pub mod Places

@@ -2,7 +2,7 @@
 use Prim.Native.Nat.{ℕ, zero, suc, _+_, _*_, _≤_, _<_}
 use mathlib.Core.Path.{_≡_, refl, sym, ap, _∙_, subst}
 use mathlib.Core.Bool.{Bool, true, false, _&&_}
-use mathlib.Core.List.{List, [], _∷_, _++_, List·Memᴰ, List·Memᴰ·head, List·Memᴰ·tail, List·Memᴰ·append-cases, List·Memᴰ·eq-of-singleton}
+use mathlib.Core.List.{List, [], _∷_, _++_, List·Memᴰ·head, List·Memᴰ·tail, List·Memᴰ·append-cases, List·Memᴰ·eq-of-singleton}
 use mathlib.Core.Option.{Option, none, some}
 use mathlib.Core.Logic.{_⊎_, inl, inr}
 use native.Mathlib.Omega.{arith}
@@ -14,12 +14,9 @@ use Rattle.spaces.specs.Space.{emptySpace, isRoom}
 use Rattle.spaces.specs.Row.{find, placeOf, isSome, only, sumBy}
 use Rattle.spaces.proofs.laws.Cases.{by-test, not-both, none-not-some}
 use Rattle.spaces.proofs.laws.Places.{placed}
+pub use Rattle.spaces_laws.specs.Above.{_∈_}
 use Rattle.spaces_laws.proofs.Tests.{and-fails-of}
 
-abbrev pub _∈_ : Space → List Space → Type 0
-_∈_ x xs = List·Memᴰ x xs
-
-infix 40 _∈_
 -- what holds of each, and of one more at the end
 pub all-snoc : (P : Space → Type 0) (xs : List Space) (x : Space) → ((y : Space) → y ∈ xs → P y) → P x → (y : Space) → y ∈ (xs ++ (x ∷ [])) → P y
 all-snoc P xs x h p y m = go (List·Memᴰ·append-cases xs m)

@@ -1,8 +1,8 @@
 -- A mark is accepted exactly where the id stands, its kind can take the standing and, unless the standing is plain, all above and below
--- are plain; then it leaves a valid sheet. Stands on Valid, Changes.
+-- are plain; then it leaves a valid sheet. Stands on Valid.
 use Prim.Native.Nat.{ℕ, zero, suc}
 use mathlib.Core.Path.{_≡_, refl, sym, ap, _∙_, subst}
-use mathlib.Core.Bool.{Bool, true, false, not, _&&_}
+use mathlib.Core.Bool.{true, false, not, _&&_}
 use mathlib.Core.List.{List, [], _∷_, _++_, map, map-append, List·Memᴰ·head, Memᴰ·append-right, Memᴰ·of-map}
 use mathlib.Core.Option.{Option, none, some}
 use native.Mathlib.Omega.{arith}
@@ -10,34 +10,28 @@ use borrow.Author.Tests.{eqb-true, eqb-false, eq-eqb, ne-eqb, not-true, not-fals
 use lib.Dec.{eqb}
 use lib.ListN.{length, length-map}
 use lib.Seq.{append-snoc}
+use Rattle.measure.specs.Refusals.{none as no-more}
+use Rattle.measure_laws.proofs.Refusals.{accepted}
 use Rattle.spaces.specs.declared.space.Space.{Space}
 use Rattle.spaces.specs.declared.sums.Amount.the-variants.{Inside, Lengths}
-use Rattle.spaces.specs.Space.{isRoom, isPlain, mayTake}
+use Rattle.spaces.specs.Space.{isRoom, isPlain}
+use Rattle.standard.specs.Standings.{mayTake}
 use Rattle.spaces.specs.Row.{find, stands, amountOf, sumBy}
 use Rattle.spaces.specs.Enclosure.{enclosing, upward, above, allPlain, below}
-use Rattle.spaces.specs.Rules.{cannotTake, plainAbove, markedTwice, markNumber}
-use Rattle.spaces.specs.Valid.{ValidFrom, done, next, Valid}
+use Rattle.standard.specs.Rules.{cannotTake, plainAbove, markedTwice, markTests, markNumber}
+use Rattle.standard.specs.Valid.{ValidFrom, done, next, Valid}
 use Rattle.spaces.proofs.laws.Cases.{by-test, by-option, not-both}
 use Rattle.spaces.proofs.laws.Enclosure.{upward-next, upward-none}
+use Rattle.spaces_laws.specs.Above.{_∈_}
+use Rattle.spaces_laws.specs.Accepted.{Accepted, Markable}
+use Rattle.spaces_laws.specs.Sound.{Sound}
 use Rattle.spaces_laws.proofs.Tests.{and-fails, and-fails-of, and-holds}
-use Rattle.spaces_laws.proofs.Refusals.{none-applies, accepted-of-none}
-use Rattle.spaces_laws.proofs.Lists.{_∈_, unfound-absent, some-of}
+use Rattle.spaces_laws.proofs.Refusals.{none-applies, apart, together}
+use Rattle.spaces_laws.proofs.Lists.{unfound-absent, some-of}
 use Rattle.spaces_laws.proofs.Walk.{upward-stands, plain-of-all, all-plain-of, below-exactly}
-use Rattle.spaces_laws.proofs.Entry.{Accepted, facts-of-entry, entry-of-facts}
-use Rattle.spaces_laws.proofs.Valid.{Sound, above-kept, same-by-id, sound-empty, sound-entered, valid-is-sound}
-use Rattle.spaces_laws.proofs.Changes.{marking, marked}
-
--- what the numbers 5, 6 and 8 leave of a mark
-pub record Markable (xs : List Space) (id standing : ℕ) : Type 0 where
-  pub it : Space
-  pub it-stands : find id xs ≡ some it
-  pub may-take : mayTake (it .kind) standing ≡ true
-  pub plain-above : eqb standing 0 ≡ false → allPlain (above xs it) ≡ true
-  pub plain-below : eqb standing 0 ≡ false → allPlain (below id xs) ≡ true
-
--- the tests of `markNumber`
-abbrev markTests : List Space → ℕ → ℕ → List (Bool × ℕ)
-markTests xs id standing = (not (stands id xs), 5) ∷ (cannotTake (find id xs) standing, 6) ∷ (markedTwice xs id standing, 8) ∷ []
+use Rattle.spaces_laws.proofs.Entry.{facts-of-entry, entry-of-facts}
+use Rattle.spaces_laws.proofs.Valid.{above-kept, same-by-id, sound-empty, sound-entered, valid-is-sound}
+use Rattle.spaces_laws.specs.Changes.{marking, marked}
 
 plain-both : (xs : List Space) (id standing : ℕ) → markedTwice xs id standing ≡ false → eqb standing 0 ≡ false
     → (plainAbove xs (find id xs) ≡ true) × (allPlain (below id xs) ≡ true)
@@ -46,7 +40,9 @@ plain-both xs id standing e p = and-holds _ _ (not-false _ (and-fails _ _ e (ap 
 pub facts-of-mark : (xs : List Space) (id standing : ℕ) → markNumber xs id standing ≡ 0 → Markable xs id standing
 unfolding markNumber
 facts-of-mark xs id standing e =
-    let (stood, (takes, (once, _))) = none-applies (markTests xs id standing) (omega arith) e in
+    let (stood, rest) = apart (none-applies (markTests xs id standing) (omega arith) e) in
+    let (takes, last) = apart rest in
+    let (once, _) = apart last in
     let s = some-of (find id xs) (not-false _ stood) in
     record {
       it = s .0;
@@ -62,7 +58,7 @@ mark-of-facts xs id standing m =
     let stood : not (stands id xs) ≡ false = rw (m .it-stands) in
     let takes : cannotTake (find id xs) standing ≡ false = rw (m .it-stands) (ap not (m .may-take)) in
     let once : markedTwice xs id standing ≡ false = and-fails-of _ _ (λ p. ap not (plain (not-true _ p))) in
-    accepted-of-none (markTests xs id standing) (stood, (takes, (once, tt)))
+    accepted (together stood (together takes (together once no-more)))
   where
     plain : eqb standing 0 ≡ false → (plainAbove xs (find id xs) && allPlain (below id xs)) ≡ true
     plain p = rw (m .it-stands, m .plain-above p) (m .plain-below p)

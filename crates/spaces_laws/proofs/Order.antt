@@ -12,8 +12,8 @@ use Rattle.spaces.specs.declared.space.Space.{Space}
 use Rattle.spaces.specs.Space.{emptySpace, isRoom}
 use Rattle.spaces.specs.Row.{find, placeOf}
 use Rattle.spaces.specs.Enclosure.{enclosing}
-use Rattle.spaces.specs.Rules.{entryNumber}
-use Rattle.spaces.specs.Valid.{ValidFrom, done, next, Valid}
+use Rattle.standard.specs.Rules.{entryNumber}
+use Rattle.standard.specs.Valid.{ValidFrom, done, next, Valid}
 use Rattle.spaces.proofs.laws.Places.{placed}
 use Rattle.spaces_laws.proofs.Lists.{find-before}
 use Rattle.spaces_laws.proofs.Walk.{enclosing-of-room}

@@ -1,27 +1,28 @@
--- Gross and net on a valid sheet: nothing of the report is cut off at 0 but the excess, net is not more than gross, and both have a
--- bound. Stands on Twice, Standings.
-use Prim.Native.Nat.{ℕ, _+_, _-_, _*_, _≤_}
-use mathlib.Core.Path.{_≡_}
+-- Gross, net and the water ballast on a valid sheet: nothing of the report is cut off at 0 but the excess, net is not more than gross,
+-- and both have a bound. Stands on Twice, Standings.
+use Prim.Native.Nat.{ℕ, _+_, _-_, _*_, _≤_, _<_}
+use mathlib.Core.Path.{_≡_, refl, sym, ap, _∙_, subst}
+use mathlib.Core.Bool.{true}
 use mathlib.Core.List.{List}
+use mathlib.Core.Logic.{_↔_}
 use native.Mathlib.Nat.{le-trans}
 use native.Mathlib.Omega.{arith}
+use borrow.Author.Tests.{ltb-true, lt-ltb}
 use Rattle.measure.specs.Handed.{mostTons}
-use Rattle.measure.specs.Allowances.{hatchwayExcess}
+use Rattle.measure.specs.Rounding.{nearest}
+use Rattle.measure.specs.Allowances.{hatchwayAllowance, hatchwayExcess, ballastOver}
+use Rattle.measure_laws.proofs.Rounding.{nearest-is, nearest-only}
 use Rattle.spaces.specs.declared.space.Space.{Space}
-use Rattle.spaces.specs.declared.sums.Amount.the-variants.{Hull, Hatchways, Exempt, Deducted}
+use Rattle.spaces.specs.declared.sums.Amount.the-variants.{Hull, Hatchways, Exempt, Ballast}
 use Rattle.spaces.specs.Row.{amountOf, sumOf}
-use Rattle.spaces.specs.Gross.{exempt, grossOver, gross, net}
-use Rattle.spaces.specs.Valid.{Valid}
-use Rattle.spaces_laws.proofs.Lists.{_∈_, sum-of-sums, sum-of-each-at-most}
+use Rattle.standard.specs.Gross.{exempt, grossOver, gross, net, unjustified}
+use Rattle.standard.specs.Valid.{Valid}
+use Rattle.spaces_laws.specs.Above.{_∈_}
+use Rattle.spaces_laws.specs.Gross.{Exact, GrossLess, OverThirtyPercent}
+use Rattle.spaces_laws.proofs.Lists.{sum-of-sums, sum-of-each-at-most}
 use Rattle.spaces_laws.proofs.Standings.{hull-or-hatchway}
 use Rattle.spaces_laws.proofs.Valid.{valid-is-sound}
 use Rattle.spaces_laws.proofs.Twice.{taken-off-at-most-whole}
-
--- each difference of the report, added up again
-pub record Exact (xs : List Space) : Type 0 where
-  pub whole-less-exempt : (sumOf Hull xs - exempt xs) + exempt xs ≡ sumOf Hull xs
-  pub whole-less-standing-1 : (sumOf Hull xs - sumOf Exempt xs) + sumOf Exempt xs ≡ sumOf Hull xs
-  pub gross-less-deducted : net xs + sumOf Deducted xs ≡ gross xs
 
 pub report-exact : {L : ℕ} {xs : List Space} → Valid L xs → Exact xs
 unfolding net gross grossOver
@@ -31,6 +32,53 @@ report-exact v = omega (arith, taken-off-at-most-whole v)
 pub net-at-most-gross : (xs : List Space) → net xs ≤ gross xs
 unfolding net
 net-at-most-gross xs = omega arith
+
+-- ---- a gross with so much taken off is the one that `GrossLess` says, and no other is
+
+pub gross-less-is : (off : ℕ) (xs : List Space) → off ≤ sumOf Hull xs → GrossLess off xs (grossOver (sumOf Hull xs - off) (sumOf Hatchways xs))
+unfolding grossOver hatchwayExcess hatchwayAllowance
+gross-less-is off xs h =
+    let g = sumOf Hull xs - off in
+    record {
+      g = g;
+      allowance = nearest g 200;
+      whole-less-off = omega arith;
+      allowance-is = nearest-is g 200 (omega arith);
+      gross-is = refl;
+    }
+
+pub gross-less-only : {off : ℕ} {xs : List Space} {gross : ℕ} → GrossLess off xs gross → gross ≡ grossOver (sumOf Hull xs - off) (sumOf Hatchways xs)
+unfolding grossOver hatchwayExcess hatchwayAllowance
+gross-less-only {off} {xs} {gross} r =
+    let g : r .g ≡ sumOf Hull xs - off = omega (arith, r .whole-less-off) in
+    let allowance : nearest (r .g) 200 ≡ r .allowance = nearest-only (r .g) 200 (r .allowance) (omega arith) (r .allowance-is) in
+    r .gross-is
+    ∙ ap (λ (n : ℕ). r .g + (sumOf Hatchways xs - n)) (sym allowance)
+    ∙ ap (λ (n : ℕ). n + (sumOf Hatchways xs - nearest n 200)) g
+
+pub gross-exactly : {L : ℕ} {xs : List Space} → Valid L xs → (n : ℕ) → (gross xs ≡ n) ↔ GrossLess (exempt xs) xs n
+unfolding gross
+gross-exactly {L} {xs} v n = (
+  λ e. subst (GrossLess (exempt xs) xs) e (gross-less-is (exempt xs) xs (omega (arith, taken-off-at-most-whole v))),
+  λ r. sym (gross-less-only r),
+)
+
+-- "If standing 2 adds up to more than 30% of it"
+pub unjustified-exactly : {L : ℕ} {xs : List Space} → Valid L xs → (unjustified xs ≡ true) ↔ OverThirtyPercent xs
+unfolding unjustified ballastOver
+unjustified-exactly {L} {xs} v =
+    let off = sumOf Exempt xs in
+    let told = grossOver (sumOf Hull xs - off) (sumOf Hatchways xs) in (
+      λ t.
+          record {
+            gross = told;
+            with-only-standing-1-off = gross-less-is off xs (omega (arith, taken-off-at-most-whole v));
+            more = ltb-true (3 * told) (10 * sumOf Ballast xs) t;
+          },
+      λ r.
+          let e : r .gross ≡ told = gross-less-only (r .with-only-standing-1-off) in
+          lt-ltb (3 * told) (10 * sumOf Ballast xs) (subst (λ (n : ℕ). 3 * n < 10 * sumOf Ballast xs) e (r .more)),
+    )
 
 -- ---- how great a gross can be: the one reported, and the one with only standing 1 taken off
 

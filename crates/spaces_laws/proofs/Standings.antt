@@ -1,39 +1,76 @@
--- What the table of standings says of a kind that can take a standing: it is U, B or S, a plain H, or R. Stands on Tests, Lists.
+-- The table of standings says what `MayTake` says of all its places, and of no other; so a space is U, B or S, a plain H, or R. Stands
+-- on Lists.
 use Prim.Native.Nat.{ℕ, zero, suc, _+_, _≤_}
 use mathlib.Core.Path.{_≡_, refl}
-use mathlib.Core.Bool.{true, _||_}
+use mathlib.Core.Bool.{Bool, true, false, _||_}
+use mathlib.Core.List.{[], _∷_}
 use native.Mathlib.Omega.{arith}
 use borrow.Author.Tests.{eqb-true}
 use lib.Dec.{eqb}
+use lib.ListN.{getD}
 use Rattle.spaces.specs.declared.space.Space.{Space}
-use Rattle.spaces.specs.Space.{isHull, isHatchway, mayTake}
+use Rattle.spaces.specs.Space.{isHull, isHatchway}
+use Rattle.standard.specs.Standings.{mayTake}
 use Rattle.spaces.specs.Row.{only}
 use Rattle.spaces.proofs.laws.Cases.{by-test, not-both}
+use Rattle.spaces_laws.specs.Standings.{MayTake, plain-U, plain-B, plain-S, plain-H, plain-R, exempt-B, exempt-S, exempt-R, ballast-R, deducted-R}
 use Rattle.spaces_laws.proofs.Lists.{only-at-most}
+
+-- what holds of each standing that a row of the table allows holds of any standing that it allows
+by-row : (P : ℕ → Type 0) (plain exempt ballast deducted : Bool) → (plain ≡ true → P 0) → (exempt ≡ true → P 1) → (ballast ≡ true → P 2)
+    → (deducted ≡ true → P 3) → (standing : ℕ) → getD (plain ∷ exempt ∷ ballast ∷ deducted ∷ []) standing false ≡ true → P standing
+by-row P _ _ _ _ p e b d zero t = p t
+by-row P _ _ _ _ p e b d (suc zero) t = e t
+by-row P _ _ _ _ p e b d (suc (suc zero)) t = b t
+by-row P _ _ _ _ p e b d (suc (suc (suc zero))) t = d t
+by-row P _ _ _ _ p e b d (suc (suc (suc (suc s)))) t = not-both t refl
+
+-- a place that the table doesn't allow
+no : {P : Type 0} → false ≡ true → P
+no t = not-both t refl
+
+pub may-take-is : (kind standing : ℕ) → mayTake kind standing ≡ true → MayTake kind standing
+unfolding mayTake
+may-take-is zero s t = no t
+may-take-is (suc zero) s t = by-row (MayTake 1) true false false false (λ _. plain-U) no no no s t
+may-take-is (suc (suc zero)) s t = by-row (MayTake 2) true true false false (λ _. plain-B) (λ _. exempt-B) no no s t
+may-take-is (suc (suc (suc zero))) s t = by-row (MayTake 3) true true false false (λ _. plain-S) (λ _. exempt-S) no no s t
+may-take-is (suc (suc (suc (suc zero)))) s t = by-row (MayTake 4) true false false false (λ _. plain-H) no no no s t
+may-take-is (suc (suc (suc (suc (suc zero))))) s t =
+    by-row (MayTake 5) true true true true (λ _. plain-R) (λ _. exempt-R) (λ _. ballast-R) (λ _. deducted-R) s t
+may-take-is (suc (suc (suc (suc (suc (suc k)))))) s t = no t
+
+pub may-take-only : {kind standing : ℕ} → MayTake kind standing → mayTake kind standing ≡ true
+unfolding mayTake
+may-take-only plain-U = refl
+may-take-only plain-B = refl
+may-take-only plain-S = refl
+may-take-only plain-H = refl
+may-take-only plain-R = refl
+may-take-only exempt-B = refl
+may-take-only exempt-S = refl
+may-take-only exempt-R = refl
+may-take-only ballast-R = refl
+may-take-only deducted-R = refl
+
+-- ---- which kinds there are for a sheet's sums
 
 pub data Kinded (kind standing : ℕ) : Type 0 where
   hull : (eqb kind 1 || eqb kind 2 || eqb kind 3) ≡ true → Kinded kind standing
   hatchway : eqb kind 4 ≡ true → eqb standing 0 ≡ true → Kinded kind standing
   room : eqb kind 5 ≡ true → Kinded kind standing
 
--- "U and H take only 0"
-hatchway-plain : (standing : ℕ) → mayTake 4 standing ≡ true → eqb standing 0 ≡ true
-unfolding mayTake
-hatchway-plain zero e = refl
-hatchway-plain (suc zero) e = not-both e refl
-hatchway-plain (suc (suc zero)) e = not-both e refl
-hatchway-plain (suc (suc (suc zero))) e = not-both e refl
-hatchway-plain (suc (suc (suc (suc s)))) e = not-both e refl
-
-pub kinded : (kind standing : ℕ) → mayTake kind standing ≡ true → Kinded kind standing
-unfolding mayTake
-kinded zero s e = not-both e refl
-kinded (suc zero) s e = hull refl
-kinded (suc (suc zero)) s e = hull refl
-kinded (suc (suc (suc zero))) s e = hull refl
-kinded (suc (suc (suc (suc zero)))) s e = hatchway refl (hatchway-plain s e)
-kinded (suc (suc (suc (suc (suc zero))))) s e = room refl
-kinded (suc (suc (suc (suc (suc (suc k)))))) s e = not-both e refl
+pub kinded : {kind standing : ℕ} → MayTake kind standing → Kinded kind standing
+kinded plain-U = hull refl
+kinded plain-B = hull refl
+kinded plain-S = hull refl
+kinded plain-H = hatchway refl refl
+kinded plain-R = room refl
+kinded exempt-B = hull refl
+kinded exempt-S = hull refl
+kinded exempt-R = room refl
+kinded ballast-R = room refl
+kinded deducted-R = room refl
 
 -- no space is both hull and hatchway
 pub hull-or-hatchway : (x : Space) (n : ℕ) → only (isHull x) n + only (isHatchway x) n ≤ n

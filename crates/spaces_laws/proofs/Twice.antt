@@ -4,6 +4,7 @@ use Prim.Native.Nat.{ℕ, _+_, _≤_}
 use mathlib.Core.Path.{_≡_, refl, sym, ap, _∙_}
 use mathlib.Core.Bool.{Bool, true, false, not, _&&_}
 use mathlib.Core.List.{List, _∷_}
+use mathlib.Core.Option.{some}
 use native.Mathlib.Omega.{arith}
 use borrow.Author.Tests.{eqb-true}
 use lib.Dec.{eqb}
@@ -11,15 +12,17 @@ use Rattle.spaces.specs.declared.space.Space.{Space}
 use Rattle.spaces.specs.declared.sums.Amount.the-variants.{Inside, Hull, Exempt, Ballast, Deducted}
 use Rattle.spaces.specs.Space.{isHatchway, isRoom, isPlain}
 use Rattle.spaces.specs.Row.{only, amountOf, sumBy, sumOf}
-use Rattle.spaces.specs.Enclosure.{above, allPlain, below}
-use Rattle.spaces.specs.Gross.{exempt}
-use Rattle.spaces.specs.Valid.{Valid}
+use Rattle.spaces.specs.Enclosure.{enclosing, above, allPlain, below}
+use Rattle.standard.specs.Gross.{exempt}
+use Rattle.standard.specs.Valid.{Valid}
 use Rattle.spaces.proofs.laws.Cases.{by-test, not-both}
+use Rattle.spaces_laws.specs.Above.{_∈_, Above}
+use Rattle.spaces_laws.specs.Sound.{Sound}
 use Rattle.spaces_laws.proofs.Tests.{and-holds, and-holds-of, and-fails-of}
-use Rattle.spaces_laws.proofs.Lists.{_∈_, found-stands, only-at-most, sum-at-most, sum-of-sums, one-within-sum, sum-of-none, sums-exchange, inside-adds}
-use Rattle.spaces_laws.proofs.Walk.{enclosing-of-room, Above, above-exactly, above-of-room, upward-stands, plain-of-all, all-plain-of, below-exactly}
-use Rattle.spaces_laws.proofs.Valid.{Sound, same-by-id, valid-is-sound}
-use Rattle.spaces_laws.proofs.Standings.{Kinded, hull, hatchway, room, kinded}
+use Rattle.spaces_laws.proofs.Lists.{found-stands, only-at-most, sum-at-most, sum-of-sums, one-within-sum, sum-of-none, sums-exchange, inside-adds}
+use Rattle.spaces_laws.proofs.Walk.{enclosing-of-room, enclosing-stands, above-exactly, above-of-room, upward-stands, plain-of-all, all-plain-of, below-exactly}
+use Rattle.spaces_laws.proofs.Valid.{same-by-id, valid-is-sound}
+use Rattle.spaces_laws.proofs.Standings.{may-take-is, Kinded, hull, hatchway, room, kinded}
 
 -- what is anywhere above a space that isn't plain is plain
 pub plain-anywhere-above : {L : ℕ} {xs : List Space} → Valid L xs → {y z : Space} → y ∈ xs → isPlain y ≡ false → Above xs y z → isPlain z ≡ true
@@ -100,14 +103,15 @@ module _ (xs : List Space) (y : Space) where
 
 module _ (L : ℕ) (xs : List Space) (s : Sound L xs) where
   taken-at : (y : Space) → y ∈ xs → takenTons y + clearTons xs y ≤ amountOf Hull y + underClear xs y
-  taken-at y m = let o = s .member y m in taken-of-kind xs y (o .plain-above) (kinded (y .kind) (y .standing) (o .may-take))
+  taken-at y m = let o = s .member y m in taken-of-kind xs y (o .plain-above) (kinded (may-take-is (y .kind) (y .standing) (o .may-take)))
 
   -- a room's enclosing space is clear where all above the room are plain
   home-clear : (y : Space) (m : y ∈ xs) (r : isRoom y ≡ true) → allPlain (above xs y) ≡ true → clear xs (s .member y m .enclosed r .home) ≡ true
   home-clear y m r e =
       let o = s .member y m in
       let z = o .enclosed r .home in
-      let u : above xs y ≡ z ∷ above xs z = above-of-room xs y (o .level-at-most) (enclosing-of-room xs y r ∙ o .enclosed r .home-stands) in
+      let h : enclosing xs y ≡ some z = enclosing-of-room xs y r ∙ o .enclosed r .home-stands in
+      let u : above xs y ≡ z ∷ above xs z = above-of-room xs y h (s .member z (enclosing-stands xs y h) .level-at-most) in
       and-holds-of _ _ (ap not (o .enclosed r .no-hatchway)) (rw u at e)
 
   -- a room under clear spaces is a share of its enclosing space

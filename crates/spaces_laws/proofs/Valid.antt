@@ -1,7 +1,7 @@
 -- What holds of a valid sheet and of every space on it, whatever the order; an accepted entry keeps it. Stands on Entry, Walk.
 use Prim.Native.Nat.{ℕ, _+_, _≤_}
 use mathlib.Core.Path.{_≡_, refl, sym, ap, _∙_}
-use mathlib.Core.Bool.{true, false, _&&_}
+use mathlib.Core.Bool.{true, _&&_}
 use mathlib.Core.List.{List, [], _∷_, _++_, append-nil, List·Memᴰ·not-nil}
 use mathlib.Core.Option.{none, some}
 use native.Mathlib.Omega.{arith}
@@ -11,37 +11,22 @@ use lib.ListN.{length, length-append}
 use lib.Seq.{append-snoc}
 use Rattle.spaces.specs.declared.space.Space.{Space}
 use Rattle.spaces.specs.declared.sums.Amount.the-variants.{Inside, Lengths}
-use Rattle.spaces.specs.Space.{isUnderDeck, isRoom, isPlain, mayTake}
+use Rattle.spaces.specs.Space.{isUnderDeck, isRoom}
 use Rattle.spaces.specs.Row.{find, amountOf, sumOf}
-use Rattle.spaces.specs.Enclosure.{above, level, allPlain}
-use Rattle.spaces.specs.Rules.{entryNumber}
-use Rattle.spaces.specs.Valid.{ValidFrom, done, next, Valid}
+use Rattle.spaces.specs.Enclosure.{above}
+use Rattle.standard.specs.Rules.{entryNumber}
+use Rattle.standard.specs.Valid.{ValidFrom, done, next, Valid}
 use Rattle.spaces.proofs.laws.Cases.{by-test, none-not-some, some-same}
 use Rattle.spaces.proofs.laws.Row.{sum-append}
+use Rattle.spaces_laws.specs.Above.{_∈_}
+use Rattle.spaces_laws.specs.Accepted.{Enclosed, Accepted}
+pub use Rattle.spaces_laws.specs.Sound.{Member, Sound}
 use Rattle.spaces_laws.proofs.Tests.{and-holds}
-use Rattle.spaces_laws.proofs.Lists.{_∈_, all-snoc, find-here, find-before, find-behind, sum-of-none, outside-adds-none}
+use Rattle.spaces_laws.proofs.Lists.{all-snoc, find-here, find-before, find-behind, sum-of-none, outside-adds-none}
 use Rattle.spaces_laws.proofs.Walk.{Closed, upward-append}
-use Rattle.spaces_laws.proofs.Entry.{Enclosed, Accepted, facts-of-entry}
+use Rattle.spaces_laws.proofs.Entry.{facts-of-entry}
 
--- a space among those of a sheet
-pub record Member (xs : List Space) (y : Space) : Type 0 where
-  pub found : find (y .id) xs ≡ some y
-  pub id-at-least : 1 ≤ y .id
-  pub id-at-most : y .id ≤ 9999
-  pub may-take : mayTake (y .kind) (y .standing) ≡ true
-  pub enclosed : isRoom y ≡ true → Enclosed xs y
-  pub level-at-most : level xs y ≤ 8
-  pub plain-above : isPlain y ≡ false → allPlain (above xs y) ≡ true
-  -- "Rooms directly inside a space have recorded tonnages that add up to no more than its own"
-  pub rooms-fit : sumOf (Inside (y .id)) xs ≤ y .tonnage
-
-pub record Sound (L : ℕ) (xs : List Space) : Type 0 where
-  pub member : (y : Space) → y ∈ xs → Member xs y
-  -- "Lengths of all U add up to no more than the tonnage length"
-  pub lengths-fit : sumOf Lengths xs ≤ L
-  pub at-most-200 : length xs ≤ 200
-
-closed : {xs : List Space} {y : Space} → (isRoom y ≡ true → Enclosed xs y) → Closed xs y
+pub closed : {xs : List Space} {y : Space} → (isRoom y ≡ true → Enclosed xs y) → Closed xs y
 closed h r = (h r .home, h r .home-stands)
 
 enclosed-append : (xs ys : List Space) (y : Space) → Enclosed xs y → Enclosed (xs ++ ys) y

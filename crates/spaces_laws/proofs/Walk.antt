@@ -1,11 +1,11 @@
 -- The chain upward ("Enclosure"): its equations, that it goes through standing spaces, that it is the same however the sheet goes on,
 -- and what `allPlain`, `among` and `below` say of members. Stands on Lists.
-use Prim.Native.Nat.{ℕ, zero, suc, _+_, _≤_, _<_}
+use Prim.Native.Nat.{ℕ, zero, suc, _+_, _≤_, _<_, min}
 use mathlib.Core.Path.{_≡_, refl, sym, ap, _∙_, subst}
 use mathlib.Core.Bool.{true, false}
 use mathlib.Core.List.{List, [], _∷_, _++_, List·Memᴰ·head, List·Memᴰ·tail, List·Memᴰ·not-nil, List·Memᴰ·cases-cons, Memᴰ·cast}
 use mathlib.Core.Option.{none, some}
-use mathlib.Core.Logic.{⊎-elim, _↔_}
+use mathlib.Core.Logic.{_⊎_, inl, inr, ⊎-elim, _↔_}
 use native.Mathlib.Omega.{arith}
 use borrow.Author.Tests.{eqb-true, eq-eqb}
 use lib.Dec.{eqb}
@@ -15,9 +15,10 @@ use Rattle.spaces.specs.Space.{isRoom, isPlain}
 use Rattle.spaces.specs.Row.{find}
 use Rattle.spaces.specs.Enclosure.{enclosing, upward, above, level, allPlain, among, belowOf, below}
 use Rattle.spaces.proofs.laws.Cases.{by-test, by-option, not-both, none-not-some}
-use Rattle.spaces.proofs.laws.Enclosure.{upward-next, upward-none}
+use Rattle.spaces.proofs.laws.Enclosure.{upward-next, upward-none, upward-short}
+use Rattle.spaces_laws.specs.Above.{_∈_, Above, directly, further}
 use Rattle.spaces_laws.proofs.Tests.{and-holds, and-holds-of}
-use Rattle.spaces_laws.proofs.Lists.{_∈_, find-before, found-stands}
+use Rattle.spaces_laws.proofs.Lists.{find-before, found-stands}
 
 -- "Only a room has an enclosing space"
 pub enclosing-of-other : (xs : List Space) (x : Space) → isRoom x ≡ false → enclosing xs x ≡ none
@@ -60,24 +61,24 @@ upward-append (suc left) xs ys closed y h =
     (λ r.
     upward-none (suc left) (xs ++ ys) y (enclosing-of-other (xs ++ ys) y r) ∙ sym (upward-none (suc left) xs y (enclosing-of-other xs y r)))
 
--- a walk that ended with levels left is the same with one level more
-upward-ended : (left : ℕ) (xs : List Space) (x : Space) → length (upward left xs x) < left → upward (suc left) xs x ≡ upward left xs x
-upward-ended zero xs x h = absurd (omega arith)
-upward-ended (suc left) xs x h =
+-- a walk with one level more is the same, or both run out of levels
+one-level-more : (left : ℕ) (xs : List Space) (x : Space)
+    → (upward (suc left) xs x ≡ upward left xs x) ⊎ ((length (upward (suc left) xs x) ≡ suc left) × (length (upward left xs x) ≡ left))
+one-level-more zero xs x =
+    by-option (enclosing xs x) (λ e. inl (upward-none 1 xs x e)) (λ z e. inr (ap length (upward-next 0 xs x e), refl))
+one-level-more (suc left) xs x =
     by-option (enclosing xs x)
-    (λ e. upward-none (suc (suc left)) xs x e ∙ sym (upward-none (suc left) xs x e))
+    (λ e. inl (upward-none (suc (suc left)) xs x e ∙ sym (upward-none (suc left) xs x e)))
     (λ z e.
-    let l : length (z ∷ upward left xs z) < suc left = rw (upward-next left xs x e) at h in
-    upward-next (suc left) xs x e
-    ∙ ap (λ (l : List Space). z ∷ l) (upward-ended left xs z (omega arith))
-    ∙ sym (upward-next left xs x e))
+    let more = upward-next (suc left) xs x e in
+    let same = upward-next left xs x e in
+    ⊎-elim
+    (λ (q : upward (suc left) xs z ≡ upward left xs z). inl (more ∙ ap (λ (l : List Space). z ∷ l) q ∙ sym same))
+    (λ (q : (length (upward (suc left) xs z) ≡ suc left) × (length (upward left xs z) ≡ left)).
+    inr (ap length more ∙ ap suc (q .0), ap length same ∙ ap suc (q .1)))
+    (one-level-more left xs z))
 
 -- ---- anywhere above
-
--- `Above xs y z`: z encloses y, or is above the space that encloses y
-pub data Above (xs : List Space) : Space → Space → Type 0 where
-  directly : {y z : Space} → enclosing xs y ≡ some z → Above xs y z
-  further : {y t z : Space} → enclosing xs y ≡ some t → Above xs t z → Above xs y z
 
 above-of-walked : (left : ℕ) (xs : List Space) (y z : Space) → z ∈ upward left xs y → Above xs y z
 above-of-walked zero xs y z m = absurd (List·Memᴰ·not-nil m)
@@ -103,20 +104,27 @@ pub above-exactly : (xs : List Space) (y z : Space) → level xs y ≤ 8 → (z 
 unfolding above
 above-exactly xs y z h = (above-of-walked 8 xs y z, walked-of-above 8 xs (omega arith))
 
-pub above-of-room : (xs : List Space) (y : Space) {z : Space} → level xs y ≤ 8 → enclosing xs y ≡ some z → above xs y ≡ z ∷ above xs z
+pub above-of-room : (xs : List Space) (y : Space) {z : Space} → enclosing xs y ≡ some z → level xs z ≤ 8 → above xs y ≡ z ∷ above xs z
 unfolding above
-above-of-room xs y {z} h e =
-    let u : above xs y ≡ z ∷ upward 7 xs z = upward-next 7 xs y e in
-    let l : length (z ∷ upward 7 xs z) + 1 ≤ 8 = rw u at h in
-    u ∙ ap (λ (l : List Space). z ∷ l) (sym (upward-ended 7 xs z (omega arith)))
+above-of-room xs y {z} e h =
+    ⊎-elim
+    (λ (q : upward 8 xs z ≡ upward 7 xs z). upward-next 7 xs y e ∙ ap (λ (l : List Space). z ∷ l) (sym q))
+    (λ (q : (length (upward 8 xs z) ≡ 8) × (length (upward 7 xs z) ≡ 7)). absurd (omega arith))
+    (one-level-more 7 xs z)
 
--- "A U, B, S or H is at level 1, a room one below its enclosing space"
+-- "A U, B, S or H is at level 1, a room one below its enclosing space": of any spaces, where a level past 8 is told as 9
 pub level-of-other : (xs : List Space) (y : Space) → isRoom y ≡ false → level xs y ≡ 1
 unfolding above
 level-of-other xs y r = rw (upward-none 8 xs y (enclosing-of-other xs y r))
 
-pub level-of-room : (xs : List Space) (y : Space) {z : Space} → level xs y ≤ 8 → enclosing xs y ≡ some z → level xs y ≡ level xs z + 1
-level-of-room xs y {z} h e = omega (arith, ap length (above-of-room xs y {z = z} h e))
+pub level-of-room : (xs : List Space) (y : Space) {z : Space} → enclosing xs y ≡ some z → level xs y ≡ min (level xs z + 1) 9
+unfolding above
+level-of-room xs y {z} e =
+    let u = ap length (upward-next 7 xs y e) in
+    ⊎-elim
+    (λ (q : upward 8 xs z ≡ upward 7 xs z). omega (arith, ap length q, upward-short 7 xs z))
+    (λ (q : (length (upward 8 xs z) ≡ 8) × (length (upward 7 xs z) ≡ 7)). omega arith)
+    (one-level-more 7 xs z)
 
 -- ---- all plain, one by one
 

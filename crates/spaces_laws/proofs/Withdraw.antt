@@ -1,48 +1,37 @@
--- A withdrawal is accepted exactly where the id stands and no room is directly inside, and then leaves a valid sheet. Stands on Entry,
--- Changes.
+-- A withdrawal is accepted exactly where the id stands and no room is directly inside, and then leaves a valid sheet. Stands on Entry.
 use Prim.Native.Nat.{ℕ, zero, suc, _≤_}
 use mathlib.Core.Path.{_≡_, refl, sym, ap, _∙_}
-use mathlib.Core.Bool.{Bool, true, false, not}
+use mathlib.Core.Bool.{true, false, not}
 use mathlib.Core.List.{List, [], _∷_, _++_, append-nil, List·Memᴰ·head, List·Memᴰ·tail, List·Memᴰ·not-nil}
-use mathlib.Core.Option.{some}
 use native.Mathlib.Nat.{le-of-eq}
 use native.Mathlib.Omega.{arith}
 use borrow.Author.Tests.{ltb-false, le-ltb, eqb-true, eqb-false, not-false}
 use lib.Dec.{eqb}
 use lib.ListN.{length}
+use Rattle.measure.specs.Refusals.{none as no-more}
+use Rattle.measure_laws.proofs.Refusals.{accepted}
 use Rattle.spaces.specs.declared.space.Space.{Space}
 use Rattle.spaces.specs.declared.sums.Amount.the-variants.{Inside, Rooms, Lengths}
 use Rattle.spaces.specs.Space.{isRoom}
 use Rattle.spaces.specs.Row.{find, stands, amountOf, sumBy, sumOf}
 use Rattle.spaces.specs.Enclosure.{above, enclosing, upward}
-use Rattle.spaces.specs.Rules.{enclosesRoom, withdrawNumber}
-use Rattle.spaces.specs.Valid.{ValidFrom, done, next, Valid}
+use Rattle.standard.specs.Rules.{enclosesRoom, withdrawTests, withdrawNumber}
+use Rattle.standard.specs.Valid.{ValidFrom, done, next, Valid}
 use Rattle.spaces.proofs.laws.Cases.{by-test, by-option}
 use Rattle.spaces.proofs.laws.Enclosure.{upward-next, upward-none}
-use Rattle.spaces_laws.proofs.Refusals.{none-applies, accepted-of-none}
-use Rattle.spaces_laws.proofs.Lists.{_∈_, all-snoc, find-further, some-of, one-within-sum, sum-of-none, inside-adds, outside-adds-none}
+use Rattle.spaces_laws.specs.Above.{_∈_}
+use Rattle.spaces_laws.specs.Accepted.{Accepted, Outside, Withdrawable}
+use Rattle.spaces_laws.proofs.Refusals.{none-applies, apart, together}
+use Rattle.spaces_laws.proofs.Lists.{all-snoc, find-further, some-of, one-within-sum, sum-of-none, inside-adds, outside-adds-none}
 use Rattle.spaces_laws.proofs.Walk.{enclosing-of-other, enclosing-of-room, enclosing-stands}
-use Rattle.spaces_laws.proofs.Entry.{Accepted, facts-of-entry, entry-of-facts}
-use Rattle.spaces_laws.proofs.Changes.{without}
-
--- a space is no room directly inside the one with an id
-abbrev pub Outside : ℕ → Space → Type 0
-Outside id y = isRoom y ≡ true → y .within ≡ id → ⊥
-
--- what the numbers 5 and 11 leave of a withdrawal
-pub record Withdrawable (xs : List Space) (id : ℕ) : Type 0 where
-  pub it : Space
-  pub it-stands : find id xs ≡ some it
-  pub no-room-inside : (y : Space) → y ∈ xs → Outside id y
-
--- the tests of `withdrawNumber`
-abbrev withdrawTests : List Space → ℕ → List (Bool × ℕ)
-withdrawTests xs id = (not (stands id xs), 5) ∷ (enclosesRoom xs id, 11) ∷ []
+use Rattle.spaces_laws.proofs.Entry.{facts-of-entry, entry-of-facts}
+use Rattle.spaces_laws.specs.Changes.{without}
 
 pub facts-of-withdrawal : (xs : List Space) (id : ℕ) → withdrawNumber xs id ≡ 0 → Withdrawable xs id
 unfolding withdrawNumber
 facts-of-withdrawal xs id e =
-    let (stood, (empty, _)) = none-applies (withdrawTests xs id) (omega arith) e in
+    let (stood, rest) = apart (none-applies (withdrawTests xs id) (omega arith) e) in
+    let (empty, _) = apart rest in
     let s = some-of (find id xs) (not-false _ stood) in
     let no-rooms : sumOf (Rooms id) xs ≤ 0 = ltb-false _ _ empty in
     record {
@@ -57,7 +46,7 @@ withdrawal-of-facts xs id w =
     let no-rooms : sumOf (Rooms id) xs ≡ 0 = sum-of-none (amountOf (Rooms id)) xs (λ y m. outside-adds-none id 1 y (w .no-room-inside y m)) in
     let stood : not (stands id xs) ≡ false = rw (w .it-stands) in
     let empty : enclosesRoom xs id ≡ false = le-ltb _ _ (le-of-eq no-rooms) in
-    accepted-of-none (withdrawTests xs id) (stood, (empty, tt))
+    accepted (together stood (together empty no-more))
 
 -- ---- the spaces without one
 

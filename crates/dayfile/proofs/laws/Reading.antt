@@ -11,22 +11,22 @@ use Rattle.measure.specs.Kinds.{kindOf}
 use Rattle.measure.specs.Ranges.{within, tonnageLengths}
 use Rattle.measure.specs.Refusals.{firstOf}
 use Rattle.spaces.specs.Space.{emptySpace}
-use Rattle.spaces.specs.Gross.{gross, net}
+use Rattle.standard.specs.Gross.{gross, net}
 use Rattle.spaces.specs.declared.space.Space.{Space}
 use Rattle.spaces.proofs.laws.Cases.{by-test, or-fails}
 use Rattle.sheet.specs.Sheet.{standing, blank}
 use Rattle.sheet.specs.Changes.{withStanding}
 use Rattle.sheet.specs.Calls.{reported}
-use Rattle.spaces.specs.Records.{recordNumber, firstRefused}
+use Rattle.standard.specs.Records.{recordNumber, firstRefused}
 use Rattle.sheet.specs.Resume.{resumed}
 use Rattle.sheet.specs.declared.sheet.Sheet.{Sheet}
-use Rattle.spaces.specs.declared.records.RefusedRecord.{RefusedRecord}
+use Rattle.standard.specs.declared.records.RefusedRecord.{RefusedRecord}
 use Rattle.sheet.specs.declared.resume.Resumed.{Resumed}
 use Rattle.sheet.proofs.laws.Calls.{passed, after-call}
 use Rattle.dayfile.specs.Fields.{fitting}
 use Rattle.dayfile.specs.Record.{recordFields, recordsIn, spaceOf, spacesOf}
 use Rattle.dayfile.specs.Trailer.{trailerSize, sheetSize, trailerRight}
-use Rattle.dayfile.specs.Reading.{lastNumbers, lastTrailer, startOf, lastRecords, noSheet, faulty, firstFaulty, faultIn, sheetIn, trailerTests, readNumber, refusedReading, acceptedReading, readOf}
+use Rattle.dayfile.specs.Reading.{lastNumbers, lastTrailer, startOf, lastRecords, noSheet, faulty, firstFaulty, faultIn, sheetIn, trailerTests, readNumber, refusedReading, acceptedReading, readOf, ReadingAccepted}
 use Rattle.dayfile.specs.Handed.{readAs, eachReadAs, judgedReading}
 use Rattle.dayfile.specs.declared.trailer.Trailer.{Trailer}
 use Rattle.dayfile.proofs.laws.Trailer.{distance-is, within-trailer, tonnage-length-fits}
@@ -221,15 +221,6 @@ module _ (s : Sheet) (t : Trailer) (start : ℕ) where
   same-figures e g n = rw (e, eq-eqb (gross (standing s)) (t .gross) g, eq-eqb (net (standing s)) (t .net) n)
 
 -- ---- a file whose reading is accepted
-
-pub record ReadingAccepted (file : List ℕ) : Type 0 where
-  -- 16, 17, then 13 or 14, then 18, none of which applies
-  pub ends-in-sheet : noSheet file ≡ false
-  pub no-fault : faultIn file ≡ 0
-  pub reports : reported (sheetIn file) (lastTrailer file .justified) .number ≡ 0
-  pub gross-is : gross (standing (sheetIn file)) ≡ lastTrailer file .gross
-  pub net-is : net (standing (sheetIn file)) ≡ lastTrailer file .net
-  pub reading-is : readOf file ≡ acceptedReading (sheetIn file) (lastTrailer file .justified) (startOf file)
 
 none-applies : (file : List ℕ) → readNumber file ≡ 0
     → readOf file ≡ acceptedReading (sheetIn file) (lastTrailer file .justified) (startOf file) → ReadingAccepted file

@@ -7,7 +7,7 @@ use native.Mathlib.Omega.{arith}
 use borrow.Author.Tests.{not-false, eq-eqb, ltb-false}
 use lib.Dec.{eqb, ltb}
 use Rattle.spaces.specs.Row.{sumOf}
-use Rattle.spaces.specs.Gross.{gross, net, unjustified}
+use Rattle.standard.specs.Gross.{gross, net, unjustified}
 use Rattle.spaces.specs.declared.sums.Amount.the-variants.{Lengths}
 use Rattle.sheet.specs.Sheet.{standing, usable, lengthOf, standingCount, placesOf}
 use Rattle.sheet.specs.Calls.{reportNumber, reported}

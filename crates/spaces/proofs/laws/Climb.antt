@@ -1,11 +1,11 @@
 -- The chain upward climbed by places, among the first of some spaces: what stands before a place, one level of the climb, and that it
 -- meets what the walk meets. Stands on Places and Index.
-use Prim.Native.Nat.{ℕ, zero, suc, _+_, _-_, _≤_, _<_}
+use Prim.Native.Nat.{ℕ, zero, suc, _+_, _-_, _≤_, _<_, min}
 use mathlib.Core.Path.{_≡_, refl, sym, ap, ap₂, _∙_}
 use mathlib.Core.Bool.{Bool, true, false, cond}
 use mathlib.Core.List.{List, [], _∷_}
 use mathlib.Core.Option.{Option, none, some}
-use native.Mathlib.Nat.{min-le-left, min-le-right}
+use native.Mathlib.Nat.{min-le-left, min-le-right, min-eq-left, min-eq-right, min-comm, suc-min-suc}
 use native.Mathlib.Omega.{arith}
 use borrow.Author.Tests.{ltb-true, ltb-false, lt-ltb, le-ltb, eqb-true}
 use lib.Dec.{eqb, ltb}
@@ -13,8 +13,9 @@ use lib.ListN.{length, take, getD, length-take}
 use lib.Seq.{getD-take}
 use Rattle.spaces.specs.Space.{emptySpace, isRoom}
 use Rattle.spaces.specs.Row.{find, placeOf, isSome, stands}
-use Rattle.spaces.specs.Enclosure.{enclosing, upward, onward}
-use Rattle.spaces.specs.Handed.{walked, pastOf, enclosingPlace, EnclosingPlaces, climbed, standingsOf}
+use Rattle.spaces.specs.Enclosure.{enclosing, upward, walked}
+use Rattle.spaces.specs.Around.{enclosingPlace}
+use Rattle.spaces.specs.Handed.{pastOf, EnclosingPlaces, climbed, standingsOf}
 use Rattle.spaces.specs.declared.space.Space.{Space}
 use Rattle.spaces.specs.declared.enclosure.Above.{Above}
 use Rattle.spaces.proofs.laws.Cases.{by-test}
@@ -46,7 +47,23 @@ stands-before id xs i h = ap isSome (found-before id xs i h) ∙ some-where (ltb
     some-where true = refl
     some-where false = refl
 
--- and the enclosing space of any where its place is
+-- its place there is its place, or the one after the last
+place-first : (id : ℕ) (xs : List Space) (i : ℕ) → i ≤ length xs → placeOf id (take i xs) ≡ min (placeOf id xs) i
+place-first id xs zero h = sym (min-eq-right (omega arith))
+place-first id [] (suc i) h = absurd (omega arith)
+place-first id (x ∷ xs) (suc i) h =
+    by-test (eqb (x .id) id)
+    (λ t. rw t (sym (min-eq-left (omega arith))))
+    (λ f. rw f (ap suc (place-first id xs i (omega arith)) ∙ sym (suc-min-suc (placeOf id xs) i)))
+
+-- and so of the enclosing space of any
+pub place-before : (x : Space) (xs : List Space) (i : ℕ) → i ≤ length xs → enclosingPlace (take i xs) x ≡ min (enclosingPlace xs x) i
+place-before x xs i h =
+    by-test (isRoom x)
+    (λ r. rw r (place-first (x .within) xs i h))
+    (λ r. rw r (length-take i xs ∙ min-comm i (length xs)))
+
+-- the enclosing space of any stands there where its place does
 pub enclosing-before : (x : Space) (xs : List Space) (i : ℕ) → i ≤ length xs
     → enclosing (take i xs) x ≡ cond (ltb (enclosingPlace xs x) i) (some (getD xs (enclosingPlace xs x) emptySpace)) none
 enclosing-before x xs i h =

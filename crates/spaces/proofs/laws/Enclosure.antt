@@ -8,8 +8,8 @@ use native.Mathlib.Numerals.{add-one}
 use native.Mathlib.Omega.{arith}
 use lib.ListN.{length}
 use Rattle.spaces.specs.Space.{isPlain}
-use Rattle.spaces.specs.Enclosure.{enclosing, onward, upward, above, among, allPlain, belowOf}
-use Rattle.spaces.specs.Handed.{walked, pastOf}
+use Rattle.spaces.specs.Enclosure.{enclosing, onward, upward, above, among, allPlain, belowOf, walked}
+use Rattle.spaces.specs.Handed.{pastOf}
 use Rattle.spaces.specs.declared.space.Space.{Space}
 
 -- one level of the walk

@@ -13,7 +13,8 @@ use lib.Seq.{getD-set-same, getD-set-other}
 use Rattle.spaces.specs.Space.{emptySpace, isRoom}
 use Rattle.spaces.specs.Row.{used, find, placeOf}
 use Rattle.spaces.specs.Enclosure.{enclosing, upward, above, among}
-use Rattle.spaces.specs.Handed.{enclosingPlace, EnclosingPlaces, leadsTo}
+use Rattle.spaces.specs.Around.{enclosingPlace}
+use Rattle.spaces.specs.Handed.{EnclosingPlaces, leadsTo}
 use Rattle.spaces.specs.declared.space.Space.{Space}
 use Rattle.spaces.proofs.laws.Cases.{by-test, by-option, none-not-some}
 use Rattle.spaces.proofs.laws.Row.{used-is, standing-at}

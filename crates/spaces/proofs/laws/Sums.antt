@@ -1,13 +1,13 @@
 -- A sum that a loop takes over the standing spaces: it and what is left to sum are the whole. Stands on Row.
-use mathlib.Core.Path.{_≡_, ap}
+use mathlib.Core.Path.{_≡_, sym, ap}
 use mathlib.Core.List.{List}
 use Prim.Native.Nat.{ℕ, _+_, _*_, _^_, _≤_, _<_}
-use native.Mathlib.Nat.{zero-add, min-le-right}
+use native.Mathlib.Nat.{zero-add}
 use native.Mathlib.Omega.{arith}
 use lib.ListN.{length, take, drop, getD}
 use Rattle.spaces.specs.Space.{emptySpace}
-use Rattle.spaces.specs.Row.{used, amountOf, sumOf}
-use Rattle.spaces.specs.Handed.{IsSum, Adds, FewSpaces}
+use Rattle.spaces.specs.Row.{used, amountOf, sumOf, mostSum, totalsOf, EachAtMost}
+use Rattle.spaces.specs.Handed.{Adds}
 use Rattle.spaces.specs.declared.space.Space.{Space}
 use Rattle.spaces.specs.declared.sums.Amount.{Amount}
 use Rattle.spaces.specs.declared.sums.Amount.the-variants.{Lengths, Hull, Hatchways, Exempt, Ballast, Deducted}
@@ -35,13 +35,16 @@ module _ (which : Amount) (spaces : List Space) (count : ℕ) (full : length spa
       record { whole = omega (arith, so .whole, e .0); small = omega (arith, so .small, e .1) }
 
   -- all of them
-  pub all-summed : {i sum : ℕ} → i ≤ used count → used count ≤ i → SoFar which (take count spaces) i sum → IsSum which (take count spaces) sum
+  pub all-summed : {i sum : ℕ} → i ≤ used count → used count ≤ i → SoFar which (take count spaces) i sum → sum ≡ sumOf which (take count spaces)
   all-summed {i} {sum} h l so =
       let z = ap (sumOf which) (standing-end spaces count full i l) in
-      let m = min-le-right count 200 in
-      (omega (arith, so .whole), omega (arith, so .small))
+      omega (arith, so .whole)
 
--- the sums of a report, and that they stay small
+-- a sum of so many stays small
+pub small-sum : {which : Amount} {xs : List Space} {i sum : ℕ} → i ≤ 200 → SoFar which xs i sum → sum ≤ mostSum
+small-sum h so = omega (arith, so .small)
+
+-- the sums of a report: they stay small, and are all where all are summed
 pub record AllSoFar (xs : List Space) (i : ℕ) (sums : Totals) : Type 0 where
   pub lengths : SoFar Lengths xs i (sums .lengths)
   pub hull : SoFar Hull xs i (sums .hull)
@@ -50,13 +53,26 @@ pub record AllSoFar (xs : List Space) (i : ℕ) (sums : Totals) : Type 0 where
   pub ballast : SoFar Ballast xs i (sums .ballast)
   pub deducted : SoFar Deducted xs i (sums .deducted)
 
-pub few : {xs : List Space} {i : ℕ} {sums : Totals} → i ≤ 200 → AllSoFar xs i sums → FewSpaces sums
+pub few : {xs : List Space} {i : ℕ} {sums : Totals} → i ≤ 200 → AllSoFar xs i sums → EachAtMost mostSum sums
 few h so =
     record {
-      lengths = omega (arith, so .lengths .small);
-      hull = omega (arith, so .hull .small);
-      hatchways = omega (arith, so .hatchways .small);
-      exempt = omega (arith, so .exempt .small);
-      ballast = omega (arith, so .ballast .small);
-      deducted = omega (arith, so .deducted .small);
+      lengths = small-sum h (so .lengths);
+      hull = small-sum h (so .hull);
+      hatchways = small-sum h (so .hatchways);
+      exempt = small-sum h (so .exempt);
+      ballast = small-sum h (so .ballast);
+      deducted = small-sum h (so .deducted);
     }
+
+pub all-totals : (spaces : List Space) (count : ℕ) → length spaces ≡ 200 → {i : ℕ} {sums : Totals} → i ≤ used count → used count ≤ i
+    → AllSoFar (take count spaces) i sums → sums ≡ totalsOf (take count spaces)
+unfolding totalsOf
+all-totals spaces count full {sums = sums} within all so =
+    rw (
+      sym (all-summed Lengths spaces count full within all (so .lengths)),
+      sym (all-summed Hull spaces count full within all (so .hull)),
+      sym (all-summed Hatchways spaces count full within all (so .hatchways)),
+      sym (all-summed Exempt spaces count full within all (so .exempt)),
+      sym (all-summed Ballast spaces count full within all (so .ballast)),
+      sym (all-summed Deducted spaces count full within all (so .deducted)),
+    )

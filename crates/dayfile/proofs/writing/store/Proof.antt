@@ -1,24 +1,18 @@
 -- `writing::store` meets its contract: refused as its report is, or for room; else the records and then the trailer are stored.
-use Prim.Native.Nat.{ℕ, _+_, _*_, _-_, _<_, _≤_}
+use Prim.Native.Nat.{ℕ, _-_, _<_}
 use mathlib.Core.Path.{_≡_, refl, sym, ap, _∙_}
 use mathlib.Core.List.{List}
 use native.Mathlib.Omega.{arith}
-use lib.ListN.{length, take, length-take, length-drop}
-use lib.Seq.{sets, length-take-le}
+use lib.ListN.{length, length-take, length-drop}
 use Rattle.sheet.specs.Calls.{reported}
 use Rattle.sheet.specs.declared.sheet.Sheet.{Sheet}
 use Rattle.sheet.specs.declared.calls.Reported.{Reported}
 use Rattle.sheet.proofs.laws.Sheet.{standing-count-le, usable-counts}
 use Rattle.sheet.proofs.laws.Report.{given, handed-out}
-use Rattle.dayfile.specs.Record.{recordSize, records}
-use Rattle.dayfile.specs.Trailer.{trailerBytes, sheetSize}
-use Rattle.dayfile.specs.Writing.{sheetBytes}
+use Rattle.dayfile.specs.Trailer.{sheetSize}
 use Rattle.dayfile.specs.Handed.{handedBack}
-use Rattle.dayfile.specs.declared.trailer.Trailer.{Trailer}
 use Rattle.dayfile.specs.declared.writing.Stored.{Stored}
-use Rattle.dayfile.proofs.laws.Stores.{stored-in-two-parts}
-use Rattle.dayfile.proofs.laws.Record.{length-records}
-use Rattle.dayfile.proofs.laws.Writing.{Answered, length-sheet, trailer-is, bytes-are, refused-with, as-report, no-room, room, accepted}
+use Rattle.dayfile.proofs.laws.Writing.{Answered, trailer-is, bytes-are, refused-with, as-report, no-room, stored-whole}
 use borrow.Author.Needs.{needs}
 use Rattle.dayfile.proofs.writing.store.Statement.{statement}
 use Rattle.dayfile.proofs.writing.store.Tie as tie
@@ -125,34 +119,28 @@ returns-4 : tie.Need-returns-4
 returns-4 c =
     let a = c .before .before .before .before .before .before .before .before .before .before .before .before .before .before .before .before .before .before .args in
     let s = a .sheet in
-    let g = given s (a .justified) _ (c .before .before .before .before .before .before .before .before .before .before .before .before .before .before .before .before .report .ensures) (c .before .before .before .before .before .before .before .before .before .before .before .before .before .before .if1 .left) in
+    let r = c .before .before .before .before .before .before .before .before .before .before .before .before .before .before .before .before .report .result in
+    let g = given s (a .justified) r (c .before .before .before .before .before .before .before .before .before .before .before .before .before .before .before .before .report .ensures) (c .before .before .before .before .before .before .before .before .before .before .before .before .before .before .if1 .left) in
     let out = handed-out s (g .is-usable) in
     let n = c .before .before .before .before .before .before .before .before .before .before .before .before .before .standing-count .result in
-    let count : n ≡ s .count = c .before .before .before .before .before .before .before .before .before .before .before .before .before .standing-count .ensures ∙ out .count-is in
-    let row : c .before .before .before .before .before .before .before .places .result ≡ s .spaces = c .before .before .before .before .before .before .before .places .ensures ∙ out .places-are in
-    let whole : length (c .before .before .before .before .before .before .before .places .result) ≡ 200 = search needs in
-    let many : s .count ≤ length (s .spaces) = omega (arith, sym (ap length row) ∙ whole, usable-counts s (g .is-usable) .places) in
-    let size : c .before .before .before .before .before .before .before .before .before .before .before .before .sheet-size .result ≡ sheetSize (s .count) = c .before .before .before .before .before .before .before .before .before .before .before .before .sheet-size .ensures ∙ ap sheetSize count in
-    let all : length (sheetBytes s (a .justified)) ≡ sheetSize (s .count) = length-sheet s (a .justified) many in
-    let w =
-    accepted s (a .justified) (a .at) (a .buf .now)
-    (room s (a .justified) (a .at) (a .buf .now) (g .number-is) (omega (arith, size, c .before .before .before .before .before .before .before .before .before .before .if3 .left)))
-    (omega (arith, size, all, c .before .before .before .before .before .before .before .before .before .before .if3 .left, c .before .before .before .before .before .before .before .before .before .before .before .if2 .left)) in
-    let t : Trailer = record { count = n; justified = a .justified; «tonnage_length» = c .before .before .before .before .before .before .before .before .before .tonnage-length .result; gross = c .before .before .before .before .before .before .before .before .before .before .before .before .before .before .before .before .report .result .gross; net = c .before .before .before .before .before .before .before .before .before .before .before .before .before .before .before .before .report .result .net } in
-    let trailer = trailer-is s (a .justified) n _ _ _ count (c .before .before .before .before .before .before .before .before .before .tonnage-length .ensures ∙ out .length-is) (g .gross-is) (g .net-is) in
-    let first : length (records (take n (c .before .before .before .before .before .before .before .places .result))) ≡ recordSize * n =
-    length-records (take n (c .before .before .before .before .before .before .before .places .result)) ∙ ap (λ (k : ℕ). recordSize * k) (length-take-le n (c .before .before .before .before .before .before .before .places .result) (omega (arith, count, whole, usable-counts s (g .is-usable) .places))) in
-    let stored =
-    stored-in-two-parts (a .buf .now) _ _ _ (records (take n (c .before .before .before .before .before .before .before .places .result))) (trailerBytes t) (a .at) (a .at + recordSize * n)
+    let count = c .before .before .before .before .before .before .before .before .before .before .before .before .before .standing-count .ensures ∙ out .count-is in
+    let row = c .before .before .before .before .before .before .before .places .result in
+    let rows = c .before .before .before .before .before .before .before .places .ensures ∙ out .places-are in
+    let whole : length row ≡ 200 = search needs in
+    let l = c .before .before .before .before .before .before .before .before .before .tonnage-length .result in
+    let lengths = c .before .before .before .before .before .before .before .before .before .tonnage-length .ensures ∙ out .length-is in
+    stored-whole s (a .justified) (a .at) (a .buf .now) n (c .before .before .before .before .before .before .before .before .before .before .before .before .sheet-size .result) row _ _ _ _
+    (g .number-is)
+    (omega (arith, sym (ap length rows) ∙ whole, usable-counts s (g .is-usable) .places))
+    count
+    rows
+    (bytes-are s (a .justified) n row _ count rows (trailer-is s (a .justified) n l (r .gross) (r .net) count lengths (g .gross-is) (g .net-is)))
+    (c .before .before .before .before .before .before .before .before .before .before .before .before .sheet-size .ensures)
     (c .before .before .before .before .before .before .before .before .before .before .before .if2 .left)
-    (ap (λ (k : ℕ). a .at + k) (sym first))
-    (omega (arith, c .before .before .before .before .before .before .before .before .before .before .before .before .sheet-size .ensures, c .before .before .before .before .before .before .before .before .before .before .if3 .left, c .before .before .before .before .before .before .before .before .before .before .before .if2 .left))
+    (c .before .before .before .before .before .before .before .before .before .before .if3 .left)
     refl
     (c .before .before .before .before .before .before .write-records .ensures)
-    (c .before .before .write-trailer .ensures) in (
-      ap (λ (k : ℕ). record { number = 0; bytes = k; sheet = s }) size ∙ w .0,
-      stored ∙ ap (λ (b : List ℕ). sets (a .buf .now) (a .at) b) (bytes-are s (a .justified) n _ t count row trailer) ∙ w .1,
-    )
+    (c .before .before .write-trailer .ensures)
 
 pub store-spec : {M : Type 1} → statement M
 store-spec =

@@ -11,6 +11,7 @@ use borrow.Fn.Kinds.{In}
 use borrow.Fn.PlainCycle.{Measures, is, falls, and}
 use Rattle.spaces.proofs.enclosure.climb.Reads as reads
 use Rattle.spaces.proofs.enclosure.climb.Kinds as kinds
+use Rattle.spaces.proofs.enclosure.nothing.Reads as nothing-reads
 use Rattle.spaces.proofs.enclosure.past.Reads as past-reads
 use Rattle.spaces.proofs.enclosure.+climb.Lts-climb as lts
 use Rattle.spaces.proofs.enclosure.+climb.{statement}
@@ -29,12 +30,15 @@ fewer-left t = and 2 kinds.ps (falls 2 kinds.ps _<_ μ t) reads.Pre
 
 -- what the functions called ask and tell
 abbrev told : ℕ → lts.Claims
-told t = (fewer-left t, reads.Post, past-reads.Asked, past-reads.Learnt)
+told t = (nothing-reads.Asked, nothing-reads.Learnt, fewer-left t, reads.Post, past-reads.Asked, past-reads.Learnt)
 
 module _ (t : ℕ) where
+  nothing-requires : lts.Need-nothing-requires (told t) (now-left t) reads.Post
+  nothing-requires c κs = tt
+
   returns : lts.Need-returns (told t) (now-left t) reads.Post
   unfolding climbed
-  returns c = rw (c .if1 .taken)
+  returns c = c .nothing .ensures ∙ rw (c .before .if1 .taken)
 
   mul-next : lts.Need-mul-next (told t) (now-left t) reads.Post
   mul-next c = omega arith
@@ -42,10 +46,13 @@ module _ (t : ℕ) where
   element-copy-out-next : lts.Need-element-copy-out-next (told t) (now-left t) reads.Post
   element-copy-out-next c = omega arith
 
+  nothing-requires-2 : lts.Need-nothing-requires-2 (told t) (now-left t) reads.Post
+  nothing-requires-2 c κs = tt
+
   returns-2 : lts.Need-returns-2 (told t) (now-left t) reads.Post
   returns-2 c =
-      let a = c .before .before .before .args in
-      sym (climbed-nowhere (a .left) (a .most) (a .places .now) (a .standings .now) (a .at) (c .if2 .taken))
+      let a = c .before .before .before .before .args in
+      c .nothing2 .ensures ∙ sym (climbed-nowhere (a .left) (a .most) (a .places .now) (a .standings .now) (a .at) (c .before .if2 .taken))
 
   sub-climb : lts.Need-sub-climb (told t) (now-left t) reads.Post
   sub-climb c = omega arith
@@ -80,9 +87,11 @@ pub +climb-spec : {M : Type 1} → statement M
     (told t)
     (now-left t)
     reads.Post
+    (nothing-requires t)
     (returns t)
     (mul-next t)
     (element-copy-out-next t)
+    (nothing-requires-2 t)
     (returns-2 t)
     (sub-climb t)
     (climb-requires t)

@@ -1,23 +1,31 @@
--- `enclosure::all_above` meets its contract.
+-- `enclosure::all_above` meets its contract: nothing is above what is no room.
+use mathlib.Core.Path.{_≡_, sym, ap, _∙_}
+use mathlib.Core.Option.{none}
+use borrow.Author.Tests.{ne-eqb}
+use lib.ListN.{take}
+use Rattle.spaces.specs.Enclosure.{enclosing, above, walked}
+use Rattle.spaces.proofs.laws.Enclosure.{upward-none}
 use borrow.Author.Needs.{needs}
 use Rattle.spaces.proofs.enclosure.all_above.Statement.{statement}
 use Rattle.spaces.proofs.enclosure.all_above.Tie as tie
 
-enum-known-found : tie.Need-enum-known-found
-enum-known-found c = search needs
-
-from-enclosing-requires : tie.Need-from-enclosing-requires
-from-enclosing-requires c κs = search needs
-
-enum-told : tie.Need-enum-told
-enum-told c = search needs
+walk-requires : tie.Need-walk-requires
+walk-requires c κs = search needs
 
 returns : tie.Need-returns
-returns c = rw (c .before .before .found .given .1) (c .from-enclosing .ensures)
+unfolding above
+returns c = search needs
+
+nothing-requires : tie.Need-nothing-requires
+nothing-requires c κs = search needs
 
 returns-2 : tie.Need-returns-2
-returns-2 c = rw (c .enum-told .given .1)
+unfolding above
+returns-2 c =
+    let a = c .before .before .before .args in
+    let xs = take (a .count) (a .spaces) in
+    let e : enclosing xs (a .x) ≡ none = rw (ne-eqb (a .x .kind) 5 (c .before .if1 .left)) in
+    c .nothing .ensures ∙ sym (ap walked (upward-none 8 xs (a .x) e))
 
 pub all-above-spec : {M : Type 1} → statement M
-all-above-spec =
-    tie.close (tie.spec enum-known-found from-enclosing-requires enum-told returns returns-2)
+all-above-spec = tie.close (tie.spec walk-requires returns nothing-requires returns-2)

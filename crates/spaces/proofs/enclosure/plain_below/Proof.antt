@@ -1,105 +1,25 @@
--- `enclosure::plain_below` meets its contract. The loop's invariant: those left are plain below where all are.
-use Prim.Native.Nat.{ℕ, _≤_, _+_, _-_}
-use mathlib.Core.Path.{_≡_, refl, sym, ap, ap₂, _∙_, subst}
-use mathlib.Core.Bool.{Bool, not, _&&_}
-use mathlib.Core.List.{List}
-use lib.ListN.{length, take, drop, getD}
-use Rattle.spaces.specs.Space.{emptySpace, isPlain}
-use Rattle.spaces.specs.Enclosure.{allPlain, belowOf, below}
-use Rattle.spaces.specs.Handed.{EnclosingPlaces, leadsTo}
-use Rattle.spaces.specs.declared.space.Space.{Space}
-use Rattle.spaces.proofs.laws.Row.{take-used, standing-step, standing-end}
-use Rattle.spaces.proofs.laws.Enclosure.{below-step}
-use Rattle.spaces.proofs.laws.Places.{leads-above-standing}
-use native.Mathlib.Omega.{arith}
+-- `enclosure::plain_below` meets its contract: where no room is directly inside, nothing is below.
+use mathlib.Core.Path.{_∙_, sym, ap}
+use lib.ListN.{take}
+use Rattle.spaces.specs.Enclosure.{allPlain}
+use Rattle.spaces.proofs.laws.Below.{nothing-below}
 use borrow.Author.Needs.{needs}
 use Rattle.spaces.proofs.enclosure.plain_below.Statement.{statement}
 use Rattle.spaces.proofs.enclosure.plain_below.Tie as tie
 
-abbrev Inv-loop : tie.InvT-loop
-Inv-loop count id spaces n homes to i₀ i =
-    (i ≤ n) × (allPlain (belowOf id (take count spaces) (drop i (take count spaces))) ≡ allPlain (below id (take count spaces)))
+sum-requires : tie.Need-sum-requires
+sum-requires c κs = search needs
 
-abbrev μ-loop : tie.MeasureT-loop
-μ-loop count id spaces n homes to i₀ i = n - i
+returns : tie.Need-returns
+returns c =
+    let a = c .before .before .args in
+    sym (ap allPlain (nothing-below (a .id) (take (a .count) (a .spaces)) (sym (c .before .sum .ensures .0) ∙ c .if1 .taken)))
 
-used-requires : tie.Need-used-requires Inv-loop μ-loop
-used-requires c κs = search needs
+plain-chains-requires : tie.Need-plain-chains-requires
+plain-chains-requires c κs = search needs
 
-places-requires : tie.Need-places-requires Inv-loop μ-loop
-places-requires c κs = search needs
-
-place-of-requires : tie.Need-place-of-requires Inv-loop μ-loop
-place-of-requires c κs = search needs
-
-loop-holds : tie.Need-loop-holds Inv-loop μ-loop
-loop-holds c = (omega arith, refl)
-
-mul-y : tie.Need-mul-y Inv-loop μ-loop
-mul-y c = search needs
-
-array-copy-out-y : tie.Need-array-copy-out-y Inv-loop μ-loop
-array-copy-out-y c = search needs
-
-taken-under-requires : tie.Need-taken-under-requires Inv-loop μ-loop
-taken-under-requires c κs = omega arith
-
--- the test of a space, as the definition has it
-step : (c : tie.After-taken-under Inv-loop μ-loop) → (let l = c .before .before .before .before in let s = l .before .before .before .before in let xs = take (s .args .count) (s .args .t1) in allPlain (below (s .args .id) xs) ≡ (not (c .taken-under .result) && allPlain (belowOf (s .args .id) xs (drop (l .loop .i + 1) xs))))
-step c =
-    let l = c .before .before .before .before in
-    let e = l .before .before in
-    let u = e .before in
-    let s = u .before in
-    let xs = take (s .args .count) (s .args .t1) in
-    let full : length (s .args .t1) ≡ 200 = search needs in
-    let firsts : take (u .used .result) (s .args .t1) ≡ xs = ap (λ (k : ℕ). take k (s .args .t1)) (u .used .ensures) ∙ take-used (s .args .t1) (s .args .count) full in
-    let y = getD (s .args .t1) (l .loop .i) emptySpace in
-    let rest = drop (l .loop .i + 1) xs in
-    let places = e .places .result in
-    let each = subst (λ (ys : List Space). EnclosingPlaces ys places) firsts (e .places .ensures) in
-    let leads = ap₂ (λ (n to : ℕ). leadsTo 8 n places (l .loop .i) to) (u .used .ensures) (l .before .place-of .ensures) ∙ leads-above-standing (s .args .t1) (s .args .count) full places each (s .args .id) (l .loop .i) (omega arith) in
-    let taken = c .taken-under .ensures ∙ ap (λ (b : Bool). not (isPlain y) && b) leads in
-    sym (l .loop .inv .1)
-    ∙ ap (λ (ys : List Space). allPlain (belowOf (s .args .id) xs ys)) (standing-step (s .args .t1) (s .args .count) full (l .loop .i) (omega arith))
-    ∙ below-step (s .args .id) xs y rest
-    ∙ ap (λ (t : Bool). not t && allPlain (belowOf (s .args .id) xs rest)) (sym taken)
-
-returns : tie.Need-returns Inv-loop μ-loop
-returns c = sym (step (c .before) ∙ simp (c .if1 .taken))
-
-add-i : tie.Need-add-i Inv-loop μ-loop
-add-i c = search needs
-
-loop-less : tie.Need-loop-less Inv-loop μ-loop
-loop-less c = search needs
-
-loop-again : tie.Need-loop-again Inv-loop μ-loop
-loop-again c = (omega arith, sym (step (c .before) ∙ simp (c .if1 .left)))
-
-returns-2 : tie.Need-returns-2 Inv-loop μ-loop
-returns-2 c =
-    let l = c .before in
-    let u = l .before .before .before in
-    let s = u .before in
-    let full : length (s .args .t1) ≡ 200 = search needs in
-    sym (ap (λ (ys : List Space). allPlain (belowOf (s .args .id) (take (s .args .count) (s .args .t1)) ys)) (standing-end (s .args .t1) (s .args .count) full (l .loop .i) (omega (arith, u .used .ensures)))) ∙ l .loop .inv .1
+returns-2 : tie.Need-returns-2
+returns-2 c = search needs
 
 pub plain-below-spec : {M : Type 1} → statement M
-plain-below-spec =
-    tie.close
-    (tie.spec
-    Inv-loop
-    μ-loop
-    used-requires
-    places-requires
-    place-of-requires
-    loop-holds
-    mul-y
-    array-copy-out-y
-    taken-under-requires
-    returns
-    add-i
-    loop-less
-    loop-again
-    returns-2)
+plain-below-spec = tie.close (tie.spec sum-requires returns plain-chains-requires returns-2)

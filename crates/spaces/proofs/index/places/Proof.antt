@@ -14,25 +14,10 @@ use Rattle.spaces.proofs.index.places.Statement.{statement}
 use Rattle.spaces.proofs.index.places.Tie as tie
 
 abbrev Inv-loop : tie.InvT-loop
-Inv-loop n own spaces ids index found₀ i₀ found i = (i ≤ n) × (length found ≡ 200) × FirstPlaces (λ (j : ℕ). asked own (take n spaces) (getD (take n spaces) j emptySpace)) i found
+Inv-loop n own index ids spaces found₀ i₀ found i = (i ≤ n) × (length found ≡ 200) × FirstPlaces (λ (j : ℕ). asked own (take n spaces) (getD (take n spaces) j emptySpace)) i found
 
 abbrev μ-loop : tie.MeasureT-loop
-μ-loop n own spaces ids index found₀ i₀ found i = n - i
-
-ids-of-requires : tie.Need-ids-of-requires Inv-loop μ-loop
-ids-of-requires c κs = tt
-
-cast-index : tie.Need-cast-index Inv-loop μ-loop
-cast-index c = omega arith
-
-slice-aggregate-index-ids : tie.Need-slice-aggregate-index-ids Inv-loop μ-loop
-slice-aggregate-index-ids c = search needs
-
-slice-aggregate-index-ids-2 : tie.Need-slice-aggregate-index-ids-2 Inv-loop μ-loop
-slice-aggregate-index-ids-2 c = search needs
-
-index-ids-requires : tie.Need-index-ids-requires Inv-loop μ-loop
-index-ids-requires c κs = search needs
+μ-loop n own index ids spaces found₀ i₀ found i = n - i
 
 loop-holds : tie.Need-loop-holds Inv-loop μ-loop
 loop-holds c = (omega arith, refl, λ j h. absurd (omega arith))
@@ -42,12 +27,6 @@ mul-x c = omega arith
 
 array-copy-out-x : tie.Need-array-copy-out-x Inv-loop μ-loop
 array-copy-out-x c = omega arith
-
-slice-aggregate-place-asked : tie.Need-slice-aggregate-place-asked Inv-loop μ-loop
-slice-aggregate-place-asked c = search needs
-
-slice-aggregate-place-asked-2 : tie.Need-slice-aggregate-place-asked-2 Inv-loop μ-loop
-slice-aggregate-place-asked-2 c = search needs
 
 place-asked-requires : tie.Need-place-asked-requires Inv-loop μ-loop
 place-asked-requires c κs = search needs
@@ -67,24 +46,25 @@ loop-less c = omega arith
 loop-again : tie.Need-loop-again Inv-loop μ-loop
 loop-again c =
     let l = c .before .before .before .before .before in
-    let s = l .before .before .before .before .before .before in
-    let n = s .args .n in
-    let xs = take n (s .args .t1) in
-    let full : length (s .args .t1) ≡ 200 = search needs in
-    let x = getD (s .args .t1) (l .loop .i) emptySpace in
-    let found : c .place-asked .result ≡ asked (s .args .own) xs x =
+    let s = l .before in
+    let a = s .args in
+    let n = a .n in
+    let xs = take n (a .t1) in
+    let full : length (a .t1) ≡ 200 = search needs in
+    let x = getD (a .t1) (l .loop .i) emptySpace in
+    let found : c .place-asked .result ≡ asked (a .own) xs x =
     c .place-asked .ensures
-    ∙ ap (λ (ids : List ℕ). askedIn (s .args .own) x (take n ids) n) (l .before .before .before .before .before .ids-of .ensures)
-    ∙ asked-first (s .args .t1) n (omega arith) (s .args .own) x in
-    let e = found ∙ ap (asked (s .args .own) xs) (sym (getD-take n (s .args .t1) (l .loop .i) emptySpace (omega arith))) in
-    (omega arith, simp length-set (l .loop .inv .1), one-more-place (λ (j : ℕ). asked (s .args .own) xs (getD xs j emptySpace)) (l .loop .found) (l .loop .i) (c .place-asked .result) (omega arith) e (l .loop .inv .2))
+    ∙ ap (λ (ids : List ℕ). askedIn (a .own) x (take n ids) n) (s .pre .1)
+    ∙ asked-first (a .t1) n (omega arith) (a .own) x in
+    let e = found ∙ ap (asked (a .own) xs) (sym (getD-take n (a .t1) (l .loop .i) emptySpace (omega arith))) in
+    (omega arith, simp length-set (l .loop .inv .1), one-more-place (λ (j : ℕ). asked (a .own) xs (getD xs j emptySpace)) (l .loop .found) (l .loop .i) (c .place-asked .result) (omega arith) e (l .loop .inv .2))
 
 returns : tie.Need-returns Inv-loop μ-loop
 returns c =
     let l = c .before in
-    let s = l .before .before .before .before .before .before in
-    let full : length (s .args .t1) ≡ 200 = search needs in
-    λ j h. l .loop .inv .2 j (omega (arith, length-take-le (s .args .n) (s .args .t1) (omega arith)))
+    let a = l .before .args in
+    let full : length (a .t1) ≡ 200 = search needs in
+    λ j h. l .loop .inv .2 j (omega (arith, length-take-le (a .n) (a .t1) (omega arith)))
 
 pub places-spec : {M : Type 1} → statement M
 places-spec =
@@ -92,16 +72,9 @@ places-spec =
     (tie.spec
     Inv-loop
     μ-loop
-    ids-of-requires
-    cast-index
-    slice-aggregate-index-ids
-    slice-aggregate-index-ids-2
-    index-ids-requires
     loop-holds
     mul-x
     array-copy-out-x
-    slice-aggregate-place-asked
-    slice-aggregate-place-asked-2
     place-asked-requires
     mul-found
     array-write-found

@@ -3,7 +3,7 @@ use Prim.Native.Nat.{_≤_, _-_}
 use native.Mathlib.Nat.{min-le-right}
 use mathlib.Core.Path.{_≡_}
 use lib.ListN.{length, take}
-use Rattle.spaces.proofs.laws.Sums.{SoFar, added, none-yet, one-more, all-summed}
+use Rattle.spaces.proofs.laws.Sums.{SoFar, added, none-yet, one-more, all-summed, small-sum}
 use borrow.Author.Needs.{needs}
 use native.Mathlib.Omega.{arith}
 use Rattle.spaces.proofs.sums.sum.Statement.{statement}
@@ -53,7 +53,8 @@ returns c =
     let l = c .before in
     let s = l .before .before in
     let full : length (s .args .t1) ≡ 200 = search needs in
-    all-summed (s .args .which) (s .args .t1) (s .args .count) full (omega arith) (omega arith) (l .loop .inv .1)
+    let so = l .loop .inv .1 in
+    (all-summed (s .args .which) (s .args .t1) (s .args .count) full (omega arith) (omega arith) so, small-sum (omega (arith, min-le-right (s .args .count) 200)) so)
 
 pub sum-spec : {M : Type 1} → statement M
 sum-spec =

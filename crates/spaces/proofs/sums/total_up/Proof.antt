@@ -6,7 +6,7 @@ use native.Mathlib.Omega.{arith}
 use lib.ListN.{length, take}
 use Rattle.spaces.specs.Row.{used}
 use Rattle.spaces.specs.declared.sums.Amount.the-variants.{Lengths, Hull, Hatchways, Exempt, Ballast, Deducted}
-use Rattle.spaces.proofs.laws.Sums.{AllSoFar, none-yet, one-more, all-summed, few}
+use Rattle.spaces.proofs.laws.Sums.{AllSoFar, none-yet, one-more, all-totals, few}
 use borrow.Author.Needs.{needs}
 use Rattle.spaces.proofs.sums.total_up.Statement.{statement}
 use Rattle.spaces.proofs.sums.total_up.Tie as tie
@@ -77,15 +77,7 @@ returns c =
     let full : length (a .t1) ≡ 200 = search needs in
     let within : l .loop .i ≤ used (a .count) = omega arith in
     let all : used (a .count) ≤ l .loop .i = omega arith in
-    let so = l .loop .inv .1 in
-    record {
-      lengths = all-summed Lengths (a .t1) (a .count) full within all (so .lengths);
-      hull = all-summed Hull (a .t1) (a .count) full within all (so .hull);
-      hatchways = all-summed Hatchways (a .t1) (a .count) full within all (so .hatchways);
-      exempt = all-summed Exempt (a .t1) (a .count) full within all (so .exempt);
-      ballast = all-summed Ballast (a .t1) (a .count) full within all (so .ballast);
-      deducted = all-summed Deducted (a .t1) (a .count) full within all (so .deducted);
-    }
+    (all-totals (a .t1) (a .count) full within all (l .loop .inv .1), few (omega (arith, min-le-right (a .count) 200)) (l .loop .inv .1))
 
 pub total-up-spec : {M : Type 1} → statement M
 total-up-spec =

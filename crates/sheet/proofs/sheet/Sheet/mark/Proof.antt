@@ -13,7 +13,7 @@ use lib.Dec.{ltb}
 use lib.ListN.{getD}
 use Rattle.spaces.specs.Space.{emptySpace}
 use Rattle.spaces.specs.Row.{find, placeOf}
-use Rattle.spaces.specs.Rules.{cannotTake, markedTwice, markTests, markNumber}
+use Rattle.standard.specs.Rules.{cannotTake, markedTwice, markTests, markNumber}
 use Rattle.spaces.specs.declared.space.Space.{Space}
 use Rattle.sheet.specs.Calls.{answered, changed, marking, marked}
 use Rattle.sheet.specs.declared.changes.Change.the-variants.{Marked}

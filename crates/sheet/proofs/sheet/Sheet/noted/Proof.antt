@@ -17,19 +17,19 @@ keeping-requires c κs = search needs
 with-latest-requires : tie.Need-with-latest-requires
 with-latest-requires c κs = search needs
 
-add-least : tie.Need-add-least
-add-least c = omega (arith, c .before .before .before .pre .count)
+add-lesser : tie.Need-add-lesser
+add-lesser c = omega (arith, c .before .before .before .pre .count)
 
-least-requires : tie.Need-least-requires
-least-requires c κs = search needs
+lesser-requires : tie.Need-lesser-requires
+lesser-requires c κs = search needs
 
 returns : tie.Need-returns
 returns c =
     let s = c .before .before .before .before in
     let sh = s .args .self in
-    ap₂ (λ (row : List OpenChange) (n : ℕ). withChanges row n 0 sh) (c .before .with-latest .ensures ∙ ap (behind (sh .changes) (sh .undoable)) (c .before .before .before .keeping .ensures)) (c .least .ensures)
+    ap₂ (λ (row : List OpenChange) (n : ℕ). withChanges row n 0 sh) (c .before .with-latest .ensures ∙ ap (behind (sh .changes) (sh .undoable)) (c .before .before .before .keeping .ensures)) (c .lesser .ensures)
     ∙ noted-is sh (s .args .change) (s .pre)
 
 pub noted-spec : {M : Type 1} → statement M
 noted-spec =
-    tie.close (tie.spec keeping-requires with-latest-requires add-least least-requires returns)
+    tie.close (tie.spec keeping-requires with-latest-requires add-lesser lesser-requires returns)

@@ -8,9 +8,9 @@ use borrow.Author.Tests.{lt-ltb, le-ltb, ne-eqb, eq-eqb}
 use lib.Dec.{eqb, ltb}
 use Rattle.measure.specs.Refusals.{firstOf}
 use Rattle.spaces.specs.Row.{sumOf}
-use Rattle.spaces.specs.Gross.{unjustified}
+use Rattle.standard.specs.Gross.{unjustified}
 use Rattle.spaces.specs.declared.sums.Amount.the-variants.{Lengths}
-use Rattle.spaces.specs.declared.gross.Reckoning.{Reckoning}
+use Rattle.standard.specs.declared.gross.Reckoning.{Reckoning}
 use Rattle.sheet.specs.Sheet.{standing, usable}
 use Rattle.sheet.specs.Calls.{reportNumber, reported, reportedWith}
 use Rattle.sheet.specs.declared.sheet.Sheet.{Sheet}

@@ -11,9 +11,9 @@ use Rattle.measure.proofs.laws.Tests.{holds, fails}
 use Rattle.spaces.proofs.laws.Row.{take-used}
 use Rattle.sheet.specs.Sheet.{blank}
 use Rattle.sheet.specs.Changes.{withStanding}
-use Rattle.spaces.specs.Records.{firstRefused}
+use Rattle.standard.specs.Records.{firstRefused}
 use Rattle.sheet.specs.Resume.{sheetOf, refused, resumed}
-use Rattle.spaces.specs.declared.records.RefusedRecord.{RefusedRecord}
+use Rattle.standard.specs.declared.records.RefusedRecord.{RefusedRecord}
 use Rattle.sheet.specs.declared.sheet.Sheet.{Sheet}
 use borrow.Author.Needs.{needs}
 use native.Mathlib.Omega.{arith}

@@ -12,7 +12,7 @@ use Rattle.sheet.specs.declared.changes.Change.{Change}
 use Rattle.sheet.specs.declared.sheet.Sheet.{Sheet}
 use Rattle.spaces.specs.Space.{emptySpace}
 use Rattle.spaces.specs.Row.{placeOf}
-use Rattle.spaces.specs.Rules.{enclosesRoom, withdrawTests, withdrawNumber}
+use Rattle.standard.specs.Rules.{enclosesRoom, withdrawTests, withdrawNumber}
 use Rattle.sheet.specs.Calls.{answered, changed, withdrawal, withdrawn}
 use Rattle.sheet.specs.declared.changes.Change.the-variants.{Withdrawn}
 use Rattle.sheet.proofs.laws.Calls.{not-open, is-open, refused, fitted-open-places, places, open-places, PlaceOf, has-place}

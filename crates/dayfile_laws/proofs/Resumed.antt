@@ -1,0 +1,48 @@
+-- The sheet that `resume` makes of some records, which reading answers. Stands on nothing of the file.
+use Prim.Native.Nat.{ℕ, _≤_}
+use mathlib.Core.Path.{_≡_, refl, ap, _∙_}
+use mathlib.Core.Bool.{true}
+use mathlib.Core.List.{List}
+use native.Mathlib.Omega.{arith}
+use borrow.Author.Tests.{le-leb}
+use lib.ListN.{length, drop, replicate, length-append, length-drop, length-replicate}
+use lib.Seq.{take-append-seam}
+use Rattle.spaces.specs.Space.{emptySpace}
+use Rattle.spaces.specs.declared.space.Space.{Space}
+use Rattle.sheet.specs.Sheet.{standing, usable, blank}
+use Rattle.sheet.specs.Calls.{counted, reported}
+use Rattle.sheet.specs.declared.sheet.Sheet.{Sheet}
+use Rattle.dayfile_laws.specs.Day.{sheetWith}
+
+module _ (L : ℕ) (xs : List Space) where
+  pub standing-same : standing (sheetWith L xs) ≡ xs
+  standing-same = take-append-seam xs (drop (length xs) (blank true L .spaces))
+
+  pub length-same : sheetWith L xs .length ≡ L
+  unfolding blank
+  length-same = refl
+
+  pub is-usable : length xs ≤ 200 → usable (sheetWith L xs) ≡ true
+  unfolding usable blank
+  is-usable few = rw (le-leb (length xs) 200 few)
+
+  pub has-200-places : length xs ≤ 200 → length (sheetWith L xs .spaces) ≡ 200
+  unfolding blank
+  has-200-places few =
+      let free = replicate 200 emptySpace in
+      length-append xs (drop (length xs) free) ∙ omega (arith, length-drop (length xs) free, length-replicate 200 emptySpace)
+
+  -- "with no open changes"
+  pub none-open : length xs ≤ 200 → (counted (sheetWith L xs) .undoable ≡ 0) × (counted (sheetWith L xs) .redoable ≡ 0)
+  unfolding counted blank
+  none-open few = let u = is-usable few in (rw u, rw u)
+
+  -- made of its own spaces it is the same again
+  pub made-again : sheetWith (sheetWith L xs .length) (standing (sheetWith L xs)) ≡ sheetWith L xs
+  made-again = ap (λ (l : ℕ). sheetWith l (standing (sheetWith L xs))) length-same ∙ ap (sheetWith L) standing-same
+
+-- a report asks no more of an open sheet than its standing spaces and its tonnage length
+pub same-report : (a b : Sheet) (justified : ℕ) → usable a ≡ true → usable b ≡ true → standing a ≡ standing b → a .length ≡ b .length
+    → reported a justified .number ≡ reported b justified .number
+unfolding reported
+same-report a b justified ua ub es el = rw (ua, ub, es, el)

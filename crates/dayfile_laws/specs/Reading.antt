@@ -1,0 +1,34 @@
+-- What a reading gives of a sheet that was written, and of a sheet behind other bytes.
+use Prim.Native.Nat.{ℕ}
+use mathlib.Core.Path.{_≡_}
+use mathlib.Core.Bool.{true, cond}
+use lib.Dec.{eqb}
+use Rattle.sheet.specs.Sheet.{standing, usable}
+use Rattle.sheet.specs.Calls.{counted}
+use Rattle.sheet.specs.declared.sheet.Sheet.{Sheet}
+use Rattle.dayfile.specs.declared.reading.Reading.{Reading}
+
+-- a reading has what was written with a mark from a place on
+pub record ReadBack (s : Sheet) (justified start : ℕ) (r : Reading) : Type 0 where
+  pub accepted : r .number ≡ 0
+  -- the same spaces, in the same order
+  pub same-spaces : standing (r .sheet) ≡ standing s
+  pub same-length : r .sheet .length ≡ s .length
+  pub same-mark : r .justified ≡ justified
+  -- "The sheet read is open, with no open changes."
+  pub is-open : usable (r .sheet) ≡ true
+  pub none-undoable : counted (r .sheet) .undoable ≡ 0
+  pub none-redoable : counted (r .sheet) .redoable ≡ 0
+  -- "where the sheet starts"
+  pub starts : r .start ≡ start
+
+-- "bytes before it don't matter": the same number, position, sheet and mark, and where accepted another start
+abbrev pub startingAt : ℕ → Reading → Reading
+startingAt start r =
+    record {
+      number = r .number;
+      position = r .position;
+      sheet = r .sheet;
+      justified = r .justified;
+      start = cond (eqb (r .number) 0) start 0;
+    }

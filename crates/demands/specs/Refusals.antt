@@ -1,0 +1,113 @@
+-- When each call is to be refused, and what a refused read gives.
+use Prim.Native.Nat.{ℕ, _-_}
+use mathlib.Core.Path.{_≡_}
+use mathlib.Core.Bool.{Bool, false, not, _&&_, _||_}
+use mathlib.Core.List.{List, [], _∷_, _++_}
+use mathlib.Core.Logic.{_↔_}
+use lib.Dec.{eqb, ltb}
+use Rattle.measure.specs.Kinds.{kindOf}
+use Rattle.measure.specs.Ranges.{within, tonnageLengths}
+use Rattle.measure.specs.Volumes.{hundredths}
+use Rattle.measure.specs.Offsets.{inRange, counted as rightlyCounted}
+use Rattle.spaces.specs.Row.{sumOf}
+use Rattle.standard.specs.Rules.{entryTests, withdrawTests, markTests}
+use Rattle.standard.specs.Gross.{gross, net, unjustified}
+use Rattle.standard.specs.Records.{misrecorded}
+use Rattle.spaces.specs.declared.space.Space.{Space}
+use Rattle.spaces.specs.declared.sums.Amount.the-variants.{Lengths}
+use Rattle.sheet.specs.Sheet.{standing, usable}
+use Rattle.sheet.specs.declared.sheet.Sheet.{Sheet}
+use Rattle.sheet.specs.declared.calls.Entry.{Entry}
+use Rattle.sheet_laws.specs.Run.{spaceOf}
+use Rattle.dayfile.specs.Trailer.{sheetSize}
+use Rattle.dayfile.specs.Reading.{lastTrailer, lastRecords, noSheet, faultIn, sheetIn, readOf}
+use Rattle.dayfile_laws.specs.Faults.{FirstFault, NoFault}
+
+-- ---- the rows of "Numbers of refusal" that each call can be refused with. The conditions of entryTests (4 to 10), withdrawTests
+-- (5, 11) and markTests (5, 6, 8) are defined in spaces/specs/Rules, those of 16 and 17 in dayfile/specs/Reading.
+
+-- 2: the tonnage length is outside its range
+abbrev pub openTests : ℕ → List (Bool × ℕ)
+openTests L = (not (within tonnageLengths L), 2) ∷ []
+
+-- 1; 2: its standing, its kind or a measure is outside its range; 3: its offsets are not the number the rules ask; 4 to 10
+abbrev pub enterTests : Sheet → Entry → List ℕ → List ℕ → List (Bool × ℕ)
+enterTests s e heights breadths =
+    let k = kindOf (e .kind) in
+    let t = hundredths (s .length) in
+    let l = hundredths (e .length) in
+    (not (usable s), 1)
+    ∷ (ltb 3 (e .standing) || not (inRange k t l heights breadths), 2)
+    ∷ (not (rightlyCounted k t l heights breadths), 3)
+    ∷ entryTests (s .length) (standing s) (spaceOf (s .length) e heights breadths)
+
+-- 1, 5, 11
+abbrev pub withdrawalTests : Sheet → ℕ → List (Bool × ℕ)
+withdrawalTests s id = (not (usable s), 1) ∷ withdrawTests (standing s) id
+
+-- 1; 2: the standing is outside its range; 5, 6, 8
+abbrev pub markingTests : Sheet → ℕ → ℕ → List (Bool × ℕ)
+markingTests s id standing' = (not (usable s), 1) ∷ (ltb 3 standing', 2) ∷ markTests (standing s) id standing'
+
+-- 1; 12: nothing undoable, or nothing redoable
+abbrev pub undoTests : Sheet → List (Bool × ℕ)
+undoTests s = (not (usable s), 1) ∷ (eqb (s .undoable) 0, 12) ∷ []
+
+abbrev pub redoTests : Sheet → List (Bool × ℕ)
+redoTests s = (not (usable s), 1) ∷ (eqb (s .redoable) 0, 12) ∷ []
+
+-- 13: "U lengths don't add up to the tonnage length"; 14: "ballast over 30%, not justified"
+abbrev pub lengthsShort : Sheet → Bool
+lengthsShort s = not (eqb (sumOf Lengths (standing s)) (s .length))
+
+abbrev pub ballastUnjustified : Sheet → ℕ → Bool
+ballastUnjustified s justified = unjustified (standing s) && eqb justified 0
+
+-- 1; 2: the justified mark is outside its range; 13, 14
+abbrev pub reportTests : Sheet → ℕ → List (Bool × ℕ)
+reportTests s justified =
+    (not (usable s), 1) ∷ (ltb 1 justified, 2) ∷ (lengthsShort s, 13) ∷ (ballastUnjustified s justified, 14) ∷ []
+
+-- the same, and 15: "buffer has too little room from the named place"
+abbrev pub writeTests : Sheet → ℕ → ℕ → ℕ → List (Bool × ℕ)
+writeTests s justified size at = reportTests s justified ++ ((ltb (size - at) (sheetSize (s .count)), 15) ∷ [])
+
+-- 18: "gross or net isn't what the records give"
+abbrev pub figuresWrong : List ℕ → Bool
+figuresWrong file =
+    let xs = standing (sheetIn file) in
+    not (eqb (gross xs) (lastTrailer file .gross)) || not (eqb (net xs) (lastTrailer file .net))
+
+-- "except in reading: there 16, 17, 13, 14, 18 in that order"
+abbrev pub readTests : List ℕ → List (Bool × ℕ)
+readTests file =
+    let s = sheetIn file in
+    let t = lastTrailer file in
+    (noSheet file, 16)
+    ∷ (not (eqb (faultIn file) 0), 17)
+    ∷ (lengthsShort s, 13)
+    ∷ (ballastUnjustified s (t .justified), 14)
+    ∷ (figuresWrong file, 18)
+    ∷ []
+
+-- "It checks records in file order as entries with the recorded tonnage and length": 2 of a record's own numbers, then 4 to 10
+abbrev pub recordTests : ℕ → List Space → Space → List (Bool × ℕ)
+recordTests L before x = (misrecorded x, 2) ∷ entryTests L before x
+
+-- ---- reading
+
+-- 17 as a statement on the records (16 comes before it): given with a position exactly when the record there is faulty after those before
+-- it and none of these is, and not given exactly when none is
+pub record Given17 (file : List ℕ) : Type 0 where
+  pub with-position : (position : ℕ)
+      → ((readOf file .number ≡ 17) × (readOf file .position ≡ position)) ↔ FirstFault (lastTrailer file .«tonnage_length») (lastRecords file) position
+  pub not-given : (readOf file .number ≡ 17 → ⊥) ↔ NoFault (lastTrailer file .«tonnage_length») (lastRecords file)
+
+-- "A refused .. read hands back a sheet not open, mark 0, start 0." 17 "with the position, from 1, of the first such record", and "The
+-- position is 0 for every number but 17."
+pub record NothingRead (file : List ℕ) : Type 0 where
+  pub not-open : usable (readOf file .sheet) ≡ false
+  pub mark-0 : readOf file .justified ≡ 0
+  pub start-0 : readOf file .start ≡ 0
+  pub position-with-17 : readOf file .number ≡ 17 → FirstFault (lastTrailer file .«tonnage_length») (lastRecords file) (readOf file .position)
+  pub position-0 : (readOf file .number ≡ 17 → ⊥) → readOf file .position ≡ 0

@@ -1,0 +1,4 @@
+-- Laws of the definitions in specs/, that the functions' proofs and the floors above cite.
+pub mod Standings
+pub mod Judged
+pub mod Records

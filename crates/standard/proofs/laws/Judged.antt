@@ -1,0 +1,107 @@
+-- An entry judged by what is around it is judged as the definition has it.
+use Prim.Native.Nat.{ℕ, _+_, _<_}
+use mathlib.Core.Path.{_≡_, refl, sym, ap, _∙_}
+use mathlib.Core.Bool.{Bool, true, false, cond, not, _&&_, _||_}
+use mathlib.Core.List.{List, [], _∷_}
+use mathlib.Core.Option.{Option, none, some}
+use native.Mathlib.Nat.{min-le-left}
+use native.Mathlib.Omega.{arith}
+use borrow.Author.Tests.{eqb-true, ne-eqb, ltb-true, lt-ltb, le-ltb, leb-true, leb-false}
+use lib.Dec.{leb, ltb}
+use lib.ListN.{length, take, getD, length-take}
+use lib.Seq.{take-all, getD-take}
+use Rattle.measure.specs.Refusals.{firstOf}
+use Rattle.spaces.specs.Space.{emptySpace, isUnderDeck, isRoom, isPlain}
+use Rattle.spaces.specs.Row.{isSome, sumOf}
+use Rattle.spaces.specs.Enclosure.{enclosing, above}
+use Rattle.spaces.specs.Around.{enclosingPlace, aroundOf}
+use Rattle.spaces.specs.declared.space.Space.{Space}
+use Rattle.spaces.specs.declared.around.Around.{Around}
+use Rattle.spaces.specs.declared.sums.Amount.the-variants.{Inside, Lengths}
+use Rattle.spaces.proofs.laws.Cases.{by-test, by-option, none-not-some}
+use Rattle.spaces.proofs.laws.Climb.{enclosing-before}
+use Rattle.standard.specs.Rules.{unhoused, misplaced, overfull, noPlace, entryTests, entryNumber}
+use Rattle.standard.specs.Handed.{overfullBy, judgedNumber}
+
+-- a room is no U, and only a room is enclosed
+no-under-deck : (x : Space) → isRoom x ≡ true → isUnderDeck x ≡ false
+no-under-deck x r = ne-eqb (x .kind) 1 (λ q. let five : x .kind ≡ 5 = eqb-true (x .kind) 5 r in omega arith)
+
+a-room : (xs : List Space) (x : Space) {z : Space} → enclosing xs x ≡ some z → isRoom x ≡ true
+a-room xs x e = by-test (isRoom x) (λ r. r) (λ r. none-not-some refl (rw r at e))
+
+-- the enclosing space, by its place
+abbrev pub enclosedAt : ℕ → List Space → Option Space
+enclosedAt home xs = cond (ltb home (length xs)) (some (getD xs home emptySpace)) none
+
+enclosed-is : (xs : List Space) (x : Space) → enclosedAt (enclosingPlace xs x) xs ≡ enclosing xs x
+enclosed-is xs x =
+    sym (ap (λ (l : List Space). enclosing l x) (sym (take-all (length xs) xs (omega arith))) ∙ enclosing-before x xs (length xs) (omega arith))
+
+-- the same as the code reads it: from the places, at the home or at another one where there is none
+pub enclosed-by : (spaces : List Space) (k home at n : ℕ) → n ≡ length (take k spaces) → (home < n → at ≡ home)
+    → cond (ltb home n) (some (getD spaces at emptySpace)) none ≡ enclosedAt home (take k spaces)
+enclosed-by spaces k home at n size there =
+    by-test (ltb home n)
+    (λ t.
+    let low = ltb-true home n t in
+    let same : getD spaces at emptySpace ≡ getD (take k spaces) home emptySpace =
+    ap (λ (p : ℕ). getD spaces p emptySpace) (there low) ∙ sym (getD-take k spaces home emptySpace (omega (arith, length-take k spaces, min-le-left k (length spaces)))) in
+    rw (t, sym size, t, same))
+    (λ f. rw (f, sym size, f))
+
+-- what an enclosed space is added to, and one that isn't
+beside-enclosed : (xs : List Space) (x : Space) {z : Space} → enclosing xs x ≡ some z → aroundOf xs x .beside ≡ sumOf (Inside (x .within)) xs
+unfolding aroundOf
+beside-enclosed xs x e =
+    by-test (ltb (enclosingPlace xs x) (length xs)) (λ t. rw t) (λ f. none-not-some (rw f at (sym (enclosed-is xs x))) e)
+
+beside-others : (xs : List Space) (x : Space) → enclosing xs x ≡ none → aroundOf xs x .beside ≡ sumOf Lengths xs
+unfolding aroundOf
+beside-others xs x e =
+    by-test (ltb (enclosingPlace xs x) (length xs)) (λ t. none-not-some e (rw t at (sym (enclosed-is xs x)))) (λ f. rw f)
+
+module _ (L : ℕ) (xs : List Space) (x : Space) where
+  same-unhoused : (isRoom x && not (isSome (enclosing xs x))) ≡ unhoused xs x
+  same-unhoused = by-test (isRoom x) (λ r. rw r) (λ r. rw r)
+
+  same-overfull : overfullBy L x (enclosing xs x) (aroundOf xs x .beside) ≡ overfull L xs x
+  same-overfull =
+      by-option (enclosing xs x)
+      (λ e. rw (e, beside-others xs x e))
+      (λ z e. rw (e, beside-enclosed xs x e, no-under-deck x (a-room xs x e)) (or-false _))
+    where
+      or-false : (b : Bool) → b ≡ (b || false)
+      or-false true = refl
+      or-false false = refl
+
+  -- the tests by what is around, and by the definition
+  same-tests : firstOf
+      ((ltb (x .id) 1 || ltb 9999 (x .id) || aroundOf xs x .taken, 4)
+      ∷ (unhoused xs x, 5)
+      ∷ (misplaced xs x, 6)
+      ∷ (leb 8 (aroundOf xs x .levels), 7)
+      ∷ (not (isPlain x) && not (aroundOf xs x .plain), 8)
+      ∷ (overfull L xs x, 9)
+      ∷ (noPlace xs, 10)
+      ∷ []) ≡ firstOf (entryTests L xs x)
+  unfolding aroundOf
+  same-tests = rw (one-level-more (length (above xs x)))
+    where
+      one-level-more : (n : ℕ) → leb 8 n ≡ ltb 8 (n + 1)
+      one-level-more n =
+          by-test (leb 8 n)
+          (λ t. t ∙ sym (lt-ltb 8 (n + 1) (omega (arith, leb-true 8 n t))))
+          (λ f. f ∙ sym (le-ltb 8 (n + 1) (omega (arith, leb-false 8 n f))))
+
+  home-encloses : enclosedAt (aroundOf xs x .home) xs ≡ enclosing xs x
+  unfolding aroundOf
+  home-encloses = enclosed-is xs x
+
+  -- as the code has it: what is around, the enclosing space by its place, and whether all places are taken
+  pub judged-is : {o : Option Space} {a : Around} {full : Bool} → a ≡ aroundOf xs x → o ≡ enclosedAt (a .home) xs → full ≡ noPlace xs
+      → judgedNumber L x o a full ≡ entryNumber L xs x
+  unfolding judgedNumber entryNumber
+  judged-is {o} {a} {full} around found all =
+      let enclosed : o ≡ enclosing xs x = found ∙ ap (λ (b : Around). enclosedAt (b .home) xs) around ∙ home-encloses in
+      rw (enclosed, around, all, same-unhoused, same-overfull) same-tests

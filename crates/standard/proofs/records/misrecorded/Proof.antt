@@ -1,0 +1,38 @@
+-- `records::misrecorded` meets its contract.
+use mathlib.Core.Path.{_≡_, ap, _∙_}
+use borrow.Author.Tests.{lt-ltb, le-ltb, eq-eqb, ne-eqb}
+use Rattle.measure.specs.Ranges.{within, lengths}
+use Rattle.measure.specs.Kinds.{kindOf}
+use Rattle.measure.proofs.laws.Tests.{holds, fails}
+use Rattle.measure.specs.declared.kinds.Kind.{Kind}
+use borrow.Author.Needs.{needs}
+use Rattle.standard.proofs.records.misrecorded.Statement.{statement}
+use Rattle.standard.proofs.records.misrecorded.Tie as tie
+
+returns : tie.Need-returns
+returns c = rw (lt-ltb 100000000 _ (c .if1 .taken))
+
+kind-of-requires : tie.Need-kind-of-requires
+kind-of-requires c κs = search needs
+
+length-fits-requires : tie.Need-length-fits-requires
+length-fits-requires c κs = search needs
+
+length-test : (c : tie.After-length-fits) → (let s = c .before .before .before .before in c .length-fits .result ≡ within (lengths (kindOf (s .args .x .kind))) (s .args .x .length))
+length-test c =
+    let s = c .before .before .before .before in
+    c .length-fits .ensures ∙ ap (λ (k : Kind). within (lengths k) (s .args .x .length)) (c .before .kind-of .ensures)
+
+returns-2 : tie.Need-returns-2
+returns-2 c = rw (le-ltb 100000000 _ (c .before .before .before .if1 .left), fails (length-test (c .before)) (c .if2 .taken))
+
+returns-3 : tie.Need-returns-3
+returns-3 c = rw (le-ltb 100000000 _ (c .before .before .before .before .before .if1 .left), holds (length-test (c .before .before .before)) (c .before .before .if2 .left), eq-eqb _ 5 (c .if3 .taken))
+
+returns-4 : tie.Need-returns-4
+returns-4 c = rw (le-ltb 100000000 _ (c .before .before .before .before .before .before .if1 .left), holds (length-test (c .before .before .before .before)) (c .before .before .before .if2 .left), ne-eqb _ 5 (c .before .if3 .left))
+
+pub misrecorded-spec : {M : Type 1} → statement M
+misrecorded-spec =
+    tie.close
+    (tie.spec returns kind-of-requires length-fits-requires returns-2 returns-3 returns-4)

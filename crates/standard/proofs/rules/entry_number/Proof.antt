@@ -1,0 +1,68 @@
+-- `rules::entry_number` meets its contract: what it finds around the entry is what the definition's tests ask.
+use mathlib.Core.Path.{_≡_, ap, _∙_}
+use native.Mathlib.Nat.{min-eq-left, min-le-right}
+use native.Mathlib.Omega.{arith}
+use lib.Dec.{leb}
+use lib.ListN.{length, take}
+use Rattle.spaces.proofs.laws.Row.{used-is}
+use Rattle.standard.proofs.laws.Judged.{judged-is, enclosed-by}
+use borrow.Author.Needs.{needs}
+use Rattle.standard.proofs.rules.entry_number.Statement.{statement}
+use Rattle.standard.proofs.rules.entry_number.Tie as tie
+
+used-requires : tie.Need-used-requires
+used-requires c κs = search needs
+
+around-space-requires : tie.Need-around-space-requires
+around-space-requires c κs = search needs
+
+sub-lesser : tie.Need-sub-lesser
+sub-lesser c = search needs
+
+lesser-requires : tie.Need-lesser-requires
+lesser-requires c κs = search needs
+
+mul-z : tie.Need-mul-z
+mul-z c = search needs
+
+array-copy-out-z : tie.Need-array-copy-out-z
+array-copy-out-z c = search needs
+
+found-if-requires : tie.Need-found-if-requires
+found-if-requires c κs = search needs
+
+judged-requires : tie.Need-judged-requires
+judged-requires c κs = search needs
+
+returns : tie.Need-returns
+returns c =
+    let found = c .before in
+    let low = found .before .before in
+    let met = low .before in
+    let u = met .before in
+    let a = u .before .args in
+    let xs = take (a .count) (a .t1) in
+    let full : length (a .t1) ≡ 200 = search needs in
+    let all = u .used .ensures ∙ used-is (a .t1) (a .count) full in
+    let around = met .around-space .ensures in
+    let home = met .around-space .result .home in
+    c .judged .ensures
+    ∙ judged-is (a .tonnage-length) xs (a .x) around
+    (found .found-if .ensures
+    ∙ enclosed-by (a .t1) (a .count) home (low .lesser .result) (u .used .result) all
+    (λ below. low .lesser .ensures ∙ min-eq-left (omega (arith, u .used .ensures, min-le-right (a .count) 200))))
+    (ap (leb 200) all)
+
+pub entry-number-spec : {M : Type 1} → statement M
+entry-number-spec =
+    tie.close
+    (tie.spec
+    used-requires
+    around-space-requires
+    sub-lesser
+    lesser-requires
+    mul-z
+    array-copy-out-z
+    found-if-requires
+    judged-requires
+    returns)

@@ -1,0 +1,224 @@
+// When an entry, a withdrawal and a mark are refused on the spaces that stand ("Numbers of refusal", 4 to 11): a
+// function for each test, in the table's order.
+use crate::refusals::ENCLOSES_ROOM;
+use crate::refusals::ID_TAKEN;
+use crate::refusals::MISPLACED;
+use crate::refusals::NO_PLACE;
+use crate::refusals::NOT_STANDING;
+use crate::refusals::OFF_TWICE;
+use crate::refusals::OVERFULL;
+use crate::refusals::TOO_DEEP;
+use crate::standings::may_take;
+use spaces::around::Around;
+use spaces::around::around_space;
+use spaces::enclosure::LEVELS;
+use spaces::enclosure::all_above;
+use spaces::enclosure::plain_below;
+use spaces::row::Found;
+use spaces::row::find;
+use spaces::row::lesser;
+use spaces::row::stands;
+use spaces::row::used;
+use spaces::space::HATCHWAY;
+use spaces::space::ROOM;
+use spaces::space::Space;
+use spaces::space::UNDER_DECK;
+use spaces::sums::Amount;
+use spaces::sums::sum;
+ghost use mathlib.Core.Path.{_≡_};
+ghost use mathlib.Core.Bool.{not, cond, _&&_, _||_};
+ghost use mathlib.Core.Option.{none, some};
+ghost use Prim.Native.Nat.{_+_};
+ghost use lib.Dec.{eqb, ltb};
+ghost use lib.ListN.{take};
+ghost use Rattle.spaces.specs.Space.{isRoom, isPlain};
+ghost use Rattle.spaces.specs.Row.{isSome};
+ghost use Rattle.spaces.specs.Enclosure.{above, allPlain, below};
+ghost use Rattle.standard.specs.Standings.{mayTake};
+ghost use Rattle.standard.specs.Rules.{inHatchway, entryNumber, enclosesRoom, withdrawNumber, markNumber};
+ghost use Rattle.standard.specs.Handed.{searched, overfullBy, judgedNumber};
+
+// Ids go from 1 to 9,999.
+const GREATEST_ID: u16 = 9_999;
+// Spaces that a sheet has room for.
+const PLACES: usize = 200;
+
+// 4: new id outside its range or already standing.
+fn id_refused(x: Space, taken: bool) -> bool
+    ensures { λ r. ⌜ r ≡ (ltb (x .id) 1 || ltb 9999 (x .id) || taken) ⌝ }
+{
+    if x.id < 1 {
+        return true;
+    }
+    if GREATEST_ID < x.id {
+        return true;
+    }
+    taken
+}
+
+// 5: a room's enclosing id isn't standing.
+fn unhoused(x: Space, found: Found) -> bool
+    ensures { λ r. ⌜ r ≡ (isRoom x && not (isSome (searched found))) ⌝ }
+{
+    match found {
+        Found::At(_) => false,
+        Found::Nothing => x.kind == ROOM,
+    }
+}
+
+// 6: kind can't take this standing, or the enclosing space is a hatchway.
+fn misplaced(x: Space, found: Found) -> bool
+    ensures { λ r. ⌜ r ≡ (not (mayTake (x .kind) (x .standing)) || inHatchway (searched found)) ⌝ }
+{
+    if !may_take(x.kind, x.standing) {
+        return true;
+    }
+    match found {
+        Found::At(z) => z.kind == HATCHWAY,
+        Found::Nothing => false,
+    }
+}
+
+// 8: not plain, and a space above isn't plain.
+fn off_twice(x: Space, plain_above: bool) -> bool
+    ensures { λ r. ⌜ r ≡ (not (isPlain x) && not «plain_above») ⌝ }
+{
+    if x.standing == 0 {
+        return false;
+    }
+    !plain_above
+}
+
+// 9: rooms would pass the enclosing tonnage, or U lengths the tonnage length.
+fn overfull(x: Space, tonnage_length: u32, found: Found, beside: u64) -> bool
+    ensures { λ r. ⌜ r ≡ overfullBy «tonnage_length» x (searched found) beside ⌝ }
+{
+    match found {
+        Found::At(z) => passes(beside, x.tonnage, z.tonnage),
+        Found::Nothing => {
+            if x.kind == UNDER_DECK {
+                return passes(beside, x.length, tonnage_length);
+            }
+            false
+        }
+    }
+}
+
+// Whether a sum passes a limit with some more.
+fn passes(sum: u64, more: u32, limit: u32) -> bool
+    ensures { λ r. ⌜ r ≡ ltb limit (sum + more) ⌝ }
+{
+    let most = limit as u64;
+    if most < sum {
+        return true;
+    }
+    most - sum < more as u64
+}
+
+// The number with which an entry of x is refused, or 0, by its enclosing space, what else is around it, and whether 200 spaces stand.
+pub(crate) fn judged(x: Space, tonnage_length: u32, found: Found, around: Around, full: bool) -> u8
+    ensures { λ r. ⌜ r ≡ judgedNumber «tonnage_length» x (searched found) around full ⌝ }
+{
+    if id_refused(x, around.taken) {
+        return ID_TAKEN;
+    }
+    if unhoused(x, found) {
+        return NOT_STANDING;
+    }
+    if misplaced(x, found) {
+        return MISPLACED;
+    }
+    if LEVELS <= around.levels {
+        return TOO_DEEP;
+    }
+    if off_twice(x, around.plain) {
+        return OFF_TWICE;
+    }
+    if overfull(x, tonnage_length, found, around.beside) {
+        return OVERFULL;
+    }
+    if full {
+        return NO_PLACE;
+    }
+    0
+}
+
+// The space z, where it is the enclosing one.
+pub(crate) fn found_if(enclosed: bool, z: Space) -> Found
+    ensures { λ r. ⌜ searched r ≡ cond enclosed (some z) none ⌝ }
+{
+    if enclosed {
+        return Found::At(z);
+    }
+    Found::Nothing
+}
+
+// The number with which an entry of x is refused, or 0.
+pub fn entry_number(spaces: [Space; 200], count: usize, tonnage_length: u32, x: Space) -> u8
+    ensures { λ r. ⌜ r ≡ entryNumber «tonnage_length» (take count spaces) x ⌝ }
+{
+    let n = used(count);
+    let around = around_space(spaces, count, x);
+    let home = around.home;
+    let z = spaces[lesser(home, PLACES - 1)];
+    judged(
+        x,
+        tonnage_length,
+        found_if(home < n, z),
+        around,
+        PLACES <= n,
+    )
+}
+
+// 11: withdrawal of a space that encloses a room.
+fn encloses_room(spaces: [Space; 200], count: usize, id: u16) -> bool
+    ensures { λ r. ⌜ r ≡ enclosesRoom (take count spaces) id ⌝ }
+{
+    0 < sum(spaces, count, Amount::Rooms(id))
+}
+
+// The number with which a withdrawal is refused, or 0.
+pub fn withdraw_number(spaces: [Space; 200], count: usize, id: u16) -> u8
+    ensures { λ r. ⌜ r ≡ withdrawNumber (take count spaces) id ⌝ }
+{
+    if !stands(spaces, count, id) {
+        return NOT_STANDING;
+    }
+    if encloses_room(spaces, count, id) {
+        return ENCLOSES_ROOM;
+    }
+    0
+}
+
+// 8 of a mark: not plain, and a space above or below isn't plain.
+fn marked_twice(spaces: [Space; 200], count: usize, z: Space, id: u16, standing: u8) -> bool
+    ensures { λ r. ⌜ r ≡ (not (eqb standing 0) && not (allPlain (above (take count spaces) z) && allPlain (below id (take count spaces)))) ⌝ }
+{
+    if standing == 0 {
+        return false;
+    }
+    let up = all_above(spaces, count, z);
+    if !up.plain {
+        return true;
+    }
+    !plain_below(spaces, count, id)
+}
+
+// The number with which a mark is refused, or 0.
+pub fn mark_number(spaces: [Space; 200], count: usize, id: u16, standing: u8) -> u8
+    ensures { λ r. ⌜ r ≡ markNumber (take count spaces) id standing ⌝ }
+{
+    let found = find(spaces, count, id);
+    match found {
+        Found::At(z) => {
+            if !may_take(z.kind, standing) {
+                return MISPLACED;
+            }
+            if marked_twice(spaces, count, z, id, standing) {
+                return OFF_TWICE;
+            }
+            0
+        }
+        Found::Nothing => NOT_STANDING,
+    }
+}

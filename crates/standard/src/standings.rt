@@ -1,0 +1,30 @@
+// The table of standings ("Standing").
+ghost use mathlib.Core.Path.{_≡_};
+ghost use Rattle.standard.specs.Standings.{mayTake};
+
+// Which kind may have which standing: a row for each kind from 1, a column for each standing from 0.
+const STANDINGS: [[bool; 4]; 5] = [
+    [true, false, false, false],
+    [true, true, false, false],
+    [true, true, false, false],
+    [true, false, false, false],
+    [true, true, true, true],
+];
+
+// Whether a kind may have a standing; no, where one of them is outside the table.
+pub fn may_take(kind: u8, standing: u8) -> bool
+    ensures { λ r. ⌜ r ≡ mayTake kind standing ⌝ }
+{
+    if kind < 1 {
+        return false;
+    }
+    if 5 < kind {
+        return false;
+    }
+    if 3 < standing {
+        return false;
+    }
+    let row = (kind - 1) as usize;
+    let column = standing as usize;
+    STANDINGS[row][column]
+}

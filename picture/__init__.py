@@ -1,0 +1,1 @@
+"""Pictures of a sheet, from its listing."""

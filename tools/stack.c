@@ -1,0 +1,274 @@
+/* The stack that each call takes, measured: a call is made on a stack of its own, every byte of it painted, and the lowest byte that is
+ * no longer as it was painted says how far down the call went. The sheet has 200 spaces, eight deep, and 64 changes; beside it each
+ * call is made on one with a space fewer, on others where changes are undone, on one whose rooms enclose one another in a ring, as no
+ * call leaves them, and on one not open. Prints nothing, or the calls that take more than the header says; with -v what each takes.
+ *
+ * Run at the root of the project, after `rt staticlib fummidrake`: see `make test`. */
+#define _DEFAULT_SOURCE
+#include "fummidrake.h"
+
+#include <stdio.h>
+#include <stdlib.h>
+#include <string.h>
+#include <ucontext.h>
+
+enum { PAINT = 0xa5, STATIONS = 17, ALL_BREADTHS = 17 * 7, DAY = 65536, LAST = DAY - (16 * 200 + 28), LENGTH = 30000 };
+
+/* What the calls are given, and where they leave their answers: nothing of it lies on the stack that is measured. */
+typedef struct {
+    fummidrake_sheet sheet;
+    fummidrake_entry entry;
+    size_t heights, breadths;
+    uint16_t id;
+} input;
+
+static input given;
+static uint32_t heights[STATIONS], breadths[ALL_BREADTHS];
+/* A day whose last sheet is the full one, and the room for another. */
+static uint8_t day[DAY], buffer[DAY];
+static uint8_t number;
+static fummidrake_changed changed;
+static fummidrake_counted counted;
+static fummidrake_reported reported;
+static fummidrake_written written;
+static fummidrake_reading reading;
+static fummidrake_listing listing;
+static fummidrake_space space;
+static size_t size;
+
+/* The calls: where there is a form in place, it is made by both, and the greater counts. */
+#define CHANGES(name, ...)                                                                                                     \
+    static void name(void) {                                                                                                   \
+        changed = fummidrake_##name(given.sheet __VA_ARGS__);                                                                  \
+        number = changed.number;                                                                                               \
+    }                                                                                                                          \
+    static void name##_on(void) {                                                                                              \
+        number = fummidrake_##name##_on(&given.sheet __VA_ARGS__);                                                             \
+    }
+
+CHANGES(enter, , given.entry, heights, given.heights, breadths, given.breadths)
+CHANGES(withdraw, , given.id)
+CHANGES(mark, , given.id, 1)
+CHANGES(undo, )
+CHANGES(redo, )
+
+static void open(void) {
+    changed = fummidrake_open(LENGTH);
+    number = changed.number;
+}
+
+static void counts(void) {
+    counted = fummidrake_counts(given.sheet);
+    number = 0;
+}
+
+static void counts_on(void) {
+    size = fummidrake_counts_on(&given.sheet).undoable;
+    number = 0;
+}
+
+static void report(void) {
+    reported = fummidrake_report(given.sheet, 1);
+    number = reported.number;
+}
+
+static void report_on(void) {
+    number = fummidrake_report_on(&given.sheet, 1).number;
+}
+
+static void write(void) {
+    written = fummidrake_write(given.sheet, 1, buffer, DAY, LAST);
+    number = written.number;
+}
+
+static void write_on(void) {
+    number = fummidrake_write_on(&given.sheet, 1, buffer, DAY, LAST).number;
+}
+
+static void is_open(void) {
+    number = fummidrake_is_open(given.sheet) ? 0 : 1;
+}
+
+static void tonnage_length(void) {
+    number = fummidrake_tonnage_length(given.sheet) == LENGTH ? 0 : 1;
+}
+
+static void standing_count(void) {
+    size = fummidrake_standing_count(given.sheet);
+    number = size == 200 ? 0 : 1;
+}
+
+static void space_at(void) {
+    space = fummidrake_space_at(given.sheet, 199);
+    number = space.id == 200 ? 0 : 1;
+}
+
+static void stations(void) {
+    number = fummidrake_stations(1, LENGTH, LENGTH) == STATIONS ? 0 : 1;
+}
+
+static void breadths_at_station(void) {
+    number = fummidrake_breadths_at_station(1, 1700) == 7 ? 0 : 1;
+}
+
+static void read(void) {
+    reading = fummidrake_read(day, DAY);
+    number = reading.number;
+}
+
+static void read_before(void) {
+    reading = fummidrake_read_before(day, DAY, DAY);
+    number = reading.number;
+}
+
+static void list(void) {
+    listing = fummidrake_list(day, DAY);
+    number = listing.text[0] == 'L' ? 0 : 1;
+}
+
+#define ROW(name, stated) {#name, name, name, stated}
+#define ROW_ON(name, stated) {#name, name, name##_on, stated}
+
+static const struct {
+    const char *name;
+    void (*by_value)(void), (*in_place)(void);
+    size_t stated;
+} calls[] = {
+    ROW(open, FUMMIDRAKE_STACK_OPEN),
+    ROW_ON(enter, FUMMIDRAKE_STACK_ENTER),
+    ROW_ON(withdraw, FUMMIDRAKE_STACK_WITHDRAW),
+    ROW_ON(mark, FUMMIDRAKE_STACK_MARK),
+    ROW_ON(undo, FUMMIDRAKE_STACK_UNDO),
+    ROW_ON(redo, FUMMIDRAKE_STACK_REDO),
+    ROW_ON(counts, FUMMIDRAKE_STACK_COUNTS),
+    ROW_ON(report, FUMMIDRAKE_STACK_REPORT),
+    ROW(is_open, FUMMIDRAKE_STACK_IS_OPEN),
+    ROW(tonnage_length, FUMMIDRAKE_STACK_TONNAGE_LENGTH),
+    ROW(standing_count, FUMMIDRAKE_STACK_STANDING_COUNT),
+    ROW(space_at, FUMMIDRAKE_STACK_SPACE_AT),
+    ROW(stations, FUMMIDRAKE_STACK_STATIONS),
+    ROW(breadths_at_station, FUMMIDRAKE_STACK_BREADTHS_AT_STATION),
+    ROW_ON(write, FUMMIDRAKE_STACK_WRITE),
+    ROW(read, FUMMIDRAKE_STACK_READ),
+    ROW(read_before, FUMMIDRAKE_STACK_READ_BEFORE),
+    ROW(list, FUMMIDRAKE_STACK_LIST),
+};
+
+/* The painted stack */
+
+static uint8_t stack[1 << 20];
+static uint8_t *first_used;
+static void (*call)(void);
+
+static void make_call(void) {
+    first_used = __builtin_frame_address(0);
+    call();
+}
+
+/* The bytes of stack that a call takes; on the painted one nothing else runs. */
+static size_t taken_by(void (*made)(void)) {
+    static ucontext_t here, there;
+    call = made;
+    memset(stack, PAINT, sizeof stack);
+    getcontext(&there);
+    there.uc_stack.ss_sp = stack;
+    there.uc_stack.ss_size = sizeof stack;
+    there.uc_link = &here;
+    makecontext(&there, make_call, 0);
+    swapcontext(&here, &there);
+    size_t untouched = 0;
+    while (stack[untouched] == PAINT)
+        untouched++;
+    return (size_t)(first_used - (stack + untouched));
+}
+
+/* The inputs */
+
+/* What an entry is made of: as high and as broad at every station. */
+static input entering(fummidrake_sheet sheet, fummidrake_entry entry, uint32_t height, uint32_t breadth) {
+    input made = {sheet, entry, fummidrake_stations(entry.kind, LENGTH, entry.length), 0, 1};
+    made.breadths = made.heights * fummidrake_breadths_at_station(entry.kind, height);
+    for (size_t i = 0; i < STATIONS; i++)
+        heights[i] = height;
+    for (size_t i = 0; i < ALL_BREADTHS; i++)
+        breadths[i] = breadth;
+    return made;
+}
+
+static void accepted(uint8_t answered) {
+    if (answered == 0)
+        return;
+    printf("tools/stack.c: a call of the set-up is refused with %d\n", answered);
+    exit(1);
+}
+
+/* The space with an id: a superstructure, the U, a superstructure with a chain of rooms, and in the lowest of these, 9, the others. */
+static input entering_space(fummidrake_sheet sheet, uint16_t id) {
+    if (id == 2)
+        return entering(sheet, (fummidrake_entry){id, 0, 1, 0, LENGTH}, 1700, 500);
+    if (id <= 3)
+        return entering(sheet, (fummidrake_entry){id, 0, 3, 0, 300}, 933, 1000);
+    if (id <= 9)
+        return entering(sheet, (fummidrake_entry){id, (uint16_t)(id - 1), 5, 0, 500}, 500, 1000);
+    return entering(sheet, (fummidrake_entry){id, 9, 5, 1, 100}, 100, 100);
+}
+
+static fummidrake_sheet sheet_of(uint16_t count) {
+    fummidrake_sheet sheet = fummidrake_open(LENGTH).sheet;
+    for (uint16_t id = 1; id <= count; id++) {
+        input next = entering_space(sheet, id);
+        accepted(fummidrake_enter_on(&sheet, next.entry, heights, next.heights, breadths, next.breadths));
+    }
+    return sheet;
+}
+
+enum { INPUTS = 8 };
+static input inputs[INPUTS];
+
+static void set_up(void) {
+    fummidrake_sheet full = sheet_of(200), fewer = sheet_of(199), ring = full;
+    fummidrake_sheet withdrawn = full, marked = full, closed = fummidrake_open(0).sheet;
+    accepted(fummidrake_withdraw_on(&withdrawn, 1));
+    accepted(fummidrake_mark_on(&marked, 200, 0));
+    fummidrake_sheet undone = withdrawn;
+    accepted(fummidrake_undo_on(&undone));
+    ring.spaces[2].kind = 5;
+    ring.spaces[2].within = 9;
+    fummidrake_sheet sheets[INPUTS] = {full, full, fewer, withdrawn, undone, marked, ring, closed};
+    for (size_t i = 0; i < INPUTS; i++) {
+        inputs[i] = entering_space(sheets[i], 200);
+        inputs[i].id = i % 2 ? 200 : 1;
+    }
+    accepted(fummidrake_write_on(&full, 1, day, DAY, LAST).number);
+}
+
+/* The most that a call takes on any of the inputs, of which it must accept one. */
+static size_t most(size_t which) {
+    size_t greatest = 0;
+    bool once = false;
+    for (size_t i = 0; i < INPUTS; i++)
+        for (int form = 0; form < 2; form++) {
+            given = inputs[i];
+            size_t taken = taken_by(form ? calls[which].in_place : calls[which].by_value);
+            greatest = taken > greatest ? taken : greatest;
+            once = once || number == 0;
+        }
+    if (!once)
+        printf("tools/stack.c: no %s is accepted\n", calls[which].name);
+    return once ? greatest : sizeof stack;
+}
+
+int main(int words, char **word) {
+    int faults = 0;
+    set_up();
+    for (size_t i = 0; i < sizeof calls / sizeof calls[0]; i++) {
+        size_t taken = most(i);
+        if (words > 1 && strcmp(word[1], "-v") == 0)
+            printf("%-20s %6zu of %6zu bytes\n", calls[i].name, taken, calls[i].stated);
+        if (taken > calls[i].stated) {
+            printf("fummidrake_%s takes %zu bytes of stack, and the header says %zu\n", calls[i].name, taken, calls[i].stated);
+            faults = 1;
+        }
+    }
+    return faults;
+}
