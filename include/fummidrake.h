@@ -64,6 +64,7 @@
 #define FUMMIDRAKE_STACK_BREADTHS_AT_STATION 1000
 #define FUMMIDRAKE_STACK_WRITE 30000
 #define FUMMIDRAKE_STACK_READ 66000
+#define FUMMIDRAKE_STACK_READ_BEFORE 66000
 #define FUMMIDRAKE_STACK_LIST 89000
 
 /* Has the compiler warn where an answer is dropped, if it can: a sheet that is not kept is lost, and a refusal not looked at. */
@@ -292,6 +293,10 @@ fummidrake_written fummidrake_write(fummidrake_sheet sheet, uint8_t justified, u
  * Refused, with a sheet not open, mark 0 and start 0, with 16, 17, 13, 14, 18. */
 FUMMIDRAKE_MUST_USE
 fummidrake_reading fummidrake_read(const uint8_t *file, size_t file_bytes);
+
+/* Reads the sheet before the start of another in the same file, by the same rules; its own start counts from the file's first byte. */
+FUMMIDRAKE_MUST_USE
+fummidrake_reading fummidrake_read_before(const uint8_t *file, size_t file_bytes, size_t start);
 
 /* Lists the last sheet of a file: its tonnage length, a line a space, gross and net; or REFUSED, the number and the position. A file
  * has at most 65,536 bytes here: a longer one is listed as REFUSED 16 0, whatever it holds. */

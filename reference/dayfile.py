@@ -242,11 +242,13 @@ def read(file: bytes) -> ReadAnswer:
     return ACCEPTED, 0, trailer.justified, last_start(file), sheet
 
 
-def sheets(file: bytes) -> Iterator[ReadAnswer]:
-    """The answers to reading a day's file sheet by sheet, the last first, to its beginning or to the first refused.
+def read_before(file: bytes, start: int) -> ReadAnswer:
+    """'The bytes ahead of that start are the earlier sheets, read the same way.'"""
+    return read(file[:start])
 
-    'The bytes ahead of that start are the earlier sheets, read the same way.'
-    """
+
+def sheets(file: bytes) -> Iterator[ReadAnswer]:
+    """The answers to reading a day's file sheet by sheet, the last first, to its beginning or to the first refused."""
     while file:
         number, position, mark, start, sheet = read(file)
         yield number, position, mark, start, sheet

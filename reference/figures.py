@@ -1,7 +1,7 @@
 """The text protocol of the program `figures`, and a seeded script of lines that visits every edge of the rules.
 
-A line and its answer. Words, numbers and lists are those of reference/survey.py, and so is what a value above its type is
-handed on as; an empty line or one beginning with '#' has no answer:
+A line and its answer. Words, numbers and lists are those of reference/survey.py, and so are what a value above its type is
+handed on as, the lines that have no answer, and the remarks on a line or a script that is none of these:
     space KIND TONNAGE_LENGTH LENGTH HEIGHTS BREADTHS           NUMBER TONNAGE PARTS THIRD
     hatchways G SUM                                             ALLOWANCE EXCESS
     ballast BALLAST GROSS                                       1 where ballast is over 30% of gross, else 0
@@ -19,8 +19,8 @@ from typing import Any, Callable, Iterator, NamedTuple, Sequence
 from reference import command_line, measure as m
 from reference.measure import B, H, R, S, U
 from reference.survey import (
-    GREATEST_MEASURE, GREATEST_NUMBER, MOST_NUMBERS, UNKNOWN_CALL, WRONG_NUMBER_OF_WORDS, NoCall, a_code, a_measure,
-    measures, number,
+    GREATEST_MEASURE, GREATEST_NUMBER, MOST_NUMBERS, Reader, a_code, a_measure, answer_to, answers_to, arguments, measures,
+    number,
 )
 
 
@@ -47,62 +47,53 @@ class Space(NamedTuple):
         return " ".join(["space", *map(word, self)])
 
 
-def read(readers: Sequence[Callable[[str], Any]], words: list[str]) -> list[Any]:
-    """The words behind the first, each as it is to be read."""
-    if len(words) != len(readers):
-        raise NoCall(WRONG_NUMBER_OF_WORDS)
-    return [reader(one) for reader, one in zip(readers, words)]
-
-
-def space_of(words: list[str]) -> Space:
-    """The words of a `space` line behind its first."""
-    return Space(*read((a_code, a_measure, a_measure, measures, measures), words))
-
-
-def amounts(words: list[str]) -> tuple[int, int]:
-    """The two amounts of a `hatchways` or `ballast` line."""
-    first, second = read((number, number), words)
-    return first, second
-
-
-def answer_space(words: list[str]) -> str:
+def answer_space(*measured: Any) -> str:
     """NUMBER TONNAGE PARTS THIRD."""
-    space = space_of(words)
+    space = Space(*measured)
     return "%d %d %d %d" % (m.measure(*space) + m.division(space.kind, space.tonnage_length, space.length))
 
 
-def answer_hatchways(words: list[str]) -> str:
+def answer_hatchways(g: int, hatchways: int) -> str:
     """ALLOWANCE EXCESS."""
-    g, hatchways = amounts(words)
     return f"{m.hatchway_allowance(g)} {m.hatchway_excess(g, hatchways)}"
 
 
-def answer_ballast(words: list[str]) -> str:
+def answer_ballast(ballast: int, gross: int) -> str:
     """1 where ballast is over 30% of gross, else 0."""
-    return "1" if m.ballast_over(*amounts(words)) else "0"
+    return "1" if m.ballast_over(ballast, gross) else "0"
 
 
-ANSWERS: dict[str, Callable[[list[str]], str]] = {
+READERS: dict[str, tuple[Reader, ...]] = {
+    "space": (a_code, a_measure, a_measure, measures, measures),
+    "hatchways": (number, number),
+    "ballast": (number, number),
+}
+ANSWERS: dict[str, Callable[..., str]] = {
     "space": answer_space,
     "hatchways": answer_hatchways,
     "ballast": answer_ballast,
 }
 
 
+def space_of(line: str) -> Space:
+    """What a `space` line hands in."""
+    return Space(*arguments(READERS, line.split(" ")))
+
+
+def call(words: list[str]) -> str:
+    """The answer to the words of a line; where they are no call, NoCall is raised."""
+    given = arguments(READERS, words)
+    return ANSWERS[words[0]](*given)
+
+
 def answer(line: str) -> str | None:
-    """The answer to one line, None where it gives none; a line outside the protocol raises NoCall."""
-    if not line or line.startswith("#"):
-        return None
-    first, *words = line.split(" ")
-    if first not in ANSWERS:
-        raise NoCall(UNKNOWN_CALL)
-    return ANSWERS[first](words)
+    """The answer to one line, None where it has none."""
+    return answer_to(line, call)
 
 
 def answers(text: str) -> str:
     """The answers to all lines of a script, each on its line."""
-    given = (answer(line) for line in text.split("\n"))
-    return "".join(one + "\n" for one in given if one is not None)
+    return answers_to(text, answer)
 
 
 # The script: what its sections are made from
@@ -576,11 +567,38 @@ def ballasts(rng: Random) -> Iterator[str]:
             yield f"ballast {ballast} {gross}"
 
 
+MANY = ",".join("5" * (MOST_NUMBERS + 1))  # a list too long
+OUTSIDE = (  # no call of this program
+    "", "#", "# space", " ", "Space 1 2 3 - -", "spaces", "open 1200", "hatchway 1 1", "ballast,1", "?", "-", " ballast 1 1", "ballast\t1 1",
+    # another number of words
+    "space", "space 1 4800 4800 -", "space 1 4800 4800 - - -", "space 1 4800 4800 - - ", "space  1 4800 4800 - -", "hatchways",
+    "hatchways 1", "hatchways 1 2 3", "hatchways 1 2 ", "ballast", "ballast 1", "ballast 1 1 1", "ballast  1 1", "ballast x",
+    # words that aren't what they are to be
+    "space x 4800 4800 - -", "space 1 - 4800 - -", "space 1 4800 -1 - -", "space  4800 4800 - -", "space 1 4800 4800 x -",
+    "space 1 4800 4800 - 5,", "space 1 4800 4800 ,5 -", "space 1 4800 4800 -,5 -", "space 1 4800 4800  -", "hatchways - 1",
+    "hatchways 1 -", "hatchways 1,2 1", "hatchways 1_0 1", "ballast 1 1.0", "ballast 1 +1", "ballast 1 ", "ballast 1 1\t",
+    "space 18446744073709551616 4800 4800 - -", "space 1 18446744073709551616 4800 - -", "space 1 4800 18446744073709551616 - -",
+    "space 1 4800 4800 18446744073709551616 -", "space 1 4800 4800 - 5,18446744073709551616", "hatchways 18446744073709551616 1",
+    "hatchways 1 18446744073709551616", "ballast 99999999999999999999 1", "ballast 1 1" + "0" * 500, f"space 1 4800 4800 {MANY} -",
+    f"space 1 4800 4800 - {MANY}", "space 1 4800 4800 - 5" + ",x" * MOST_NUMBERS, "space 1 4800 4800 - 5" + ",x" * (MOST_NUMBERS - 1),
+    # the first remark that fits, from left to right
+    "spaces x", "ballast x x x", "ballast 18446744073709551616 x", "ballast x 18446744073709551616", f"space x 4800 4800 {MANY} -",
+    f"space 1 4800 4800 x {MANY}", f"space 1 4800 4800 {MANY} x", "space 1 4800 4800 18446744073709551616,x -",
+    "space 1 4800 4800 x,18446744073709551616 -",
+)
+
+
+def outside(rng: Random) -> Iterator[str]:
+    """Lines outside the protocol, for each remark, and lines without an answer."""
+    yield "# Lines outside the protocol"
+    yield from OUTSIDE
+
+
 SECTIONS: tuple[Callable[[Random], Iterator[str]], ...] = (
     figures_of_the_paper, edges_of_lengths, whole_and_step, every_number_of_parts, middle_depths,
     halves_of_thirds_of_length, halves_of_thirds_of_depth, halves_of_boxes, halves_of_others, ties, zeros,
     greatest_measures, wrong_numbers, out_of_ranges, surplus_out_of_range, unknown_kinds, any_spaces, hatchways,
-    ballasts,
+    ballasts, outside,
 )
 
 
@@ -595,7 +613,7 @@ def asked_for(arguments: list[str]) -> str | None:
     if arguments == ["script"]:
         return script()
     if arguments == ["answers"]:
-        return answers(sys.stdin.buffer.read().decode("ascii"))
+        return answers(sys.stdin.buffer.read().decode("latin-1"))
     return None
 
 

@@ -85,6 +85,11 @@ def read(file: bytes) -> str:
     return f"read {in_hex(file)}"
 
 
+def before(start: int, file: bytes) -> str:
+    """The line of a read of the sheet before a start."""
+    return f"before {start} {in_hex(file)}"
+
+
 # Sheets that sections begin with
 
 def a_thousand() -> Lines:
@@ -552,6 +557,19 @@ def read_and_looked_at(session: Session, file: bytes) -> Lines:
         yield write(justified, 0, len(file) - start)
 
 
+def walked_back(session: Session, day: bytes) -> Lines:
+    """The sheets of a day's file by the starts of those behind them, until one is refused, and from starts that are none."""
+    yield "# A day's file, sheet before sheet"
+    for file in (day, b"\0" * 40 + day, day[:-1], b""):
+        start, number = len(file), 0
+        while not number:
+            yield from (before(start, file), *LOOK, "undo", "report 1")
+            number, _, _, start, _ = dayfile.read_before(file, start)
+    last = dayfile.read(day)[3]
+    for start in (0, 1, 27, 28, 29, last - 1, last, last + 1, len(day) - 1, len(day), len(day) + 1, 2**32, 2**63, 2**64 - 1):
+        yield from (before(start, day), *LOOK)
+
+
 def written_and_read(rng: Random, session: Session) -> Lines:
     """What a write gives is read back, each sheet alone and all of them as a day's file, from its end."""
     yield "# Written and read back"
@@ -566,6 +584,7 @@ def written_and_read(rng: Random, session: Session) -> Lines:
         yield call("writef", justified, len(day), len(day) + len(file) + 2, 255)
         yield from read_and_looked_at(session, file)
         day += file
+    yield from walked_back(session, day)
     yield "# A day's file, from its end"
     while day:
         yield from read_and_looked_at(session, day)
@@ -601,6 +620,8 @@ def generated_files(rng: Random, session: Session) -> Lines:
         one_in = 1 if len(file) <= SMALL_FILE else 8 if len(file) <= LARGER_FILE else 60
         if rng.randrange(one_in if made_for else 12 * one_in) == 0:
             yield from (f"# {name}", read(file))
+            if rng.randrange(5) == 0:
+                yield before(len(file), file + rng.randbytes(rng.randrange(40)))
             if session.sheet.is_open:
                 yield from ("spaces", *["undo", "redo", write(1, 0, 44)] * (rng.randrange(8) == 0))
     yield "# The longest file"
@@ -646,7 +667,9 @@ MALFORMED = (
     "writef 0 0 0 257", "writef 0 0 0 18446744073709551615", "writef 0 0 65537 256", "writef 0 0 65537 x",
     "writef 0 0 x 256", "writef 0 x 65537 256", "writef 0 0 4 00256", "write 0 0 0065537", "read ", "read 0",
     "read 000", "read 0g", "read g0", "read 0A", "read FF", "read 0x", "read 0x00", "read --", "read -0", "read 0-",
-    "read ,", "read 00,00", "read +0", "read 0.", "read 00\r", "read 0\t", "read 0:", "read `0", "read /0", "read @a",
+    "before", "before 0", "before 00", "before 0 00 00", "before 0 00 ", "before  00", "before x 00", "before - 00", "before 00 ",
+    "before 0 0", "before 0 0g", "before 0 --", "before 18446744073709551616 00", "before 18446744073709551616 0g",
+    "before x 0", "read ,", "read 00,00", "read +0", "read 0.", "read 00\r", "read 0\t", "read 0:", "read `0", "read /0", "read @a",
 )
 
 
@@ -821,7 +844,8 @@ def writing(rng: Random, sheet: Sheet, most: int) -> Lines:
 def rereading(rng: Random, sheet: Sheet, most: int) -> Lines:
     """A small sheet that can be written is read back, which ends its open changes."""
     if len(sheet.spaces) <= FEW_SPACES and not s.numbers_of_report(sheet, s.JUSTIFIED):
-        yield from (read(dayfile.bytes_of(sheet, s.JUSTIFIED)), *LOOK)
+        file = dayfile.bytes_of(sheet, s.JUSTIFIED)
+        yield from (one_of(rng, (read(file), before(len(file), file + b"\0" * rng.randrange(3)))), *LOOK)
 
 
 def looking(rng: Random, sheet: Sheet, most: int) -> Lines:

@@ -129,6 +129,7 @@ def a_file(word: str) -> bytes:
 # Calls: how the words behind each are read, and what it answers: its number, its values and the sheet after it.
 
 Answer = tuple[Any, ...]
+Reader = Callable[[str], Any]  # of a word
 
 
 def of_space(space: Space) -> str:
@@ -158,7 +159,7 @@ def write(sheet: Sheet, justified: int, at: int, size: int) -> Answer:
     return writef(sheet, justified, at, size, 0)
 
 
-CALLS: dict[str, tuple[tuple[Callable[[str], Any], ...], Callable[..., Answer]]] = {
+CALLS: dict[str, tuple[tuple[Reader, ...], Callable[..., Answer]]] = {
     "open": ((a_measure,), lambda sheet, length: s.open_sheet(length)),
     "enter": ((an_id, an_id, a_code, a_code, a_measure, measures, measures), s.enter),
     "withdraw": ((an_id,), s.withdraw),
@@ -170,8 +171,40 @@ CALLS: dict[str, tuple[tuple[Callable[[str], Any], ...], Callable[..., Answer]]]
     "write": ((a_code, number, a_size), write),
     "writef": ((a_code, number, a_size, a_byte), writef),
     "read": ((a_file,), lambda sheet, file: dayfile.read(file)),
+    "before": ((number, a_file), lambda sheet, start, file: dayfile.read_before(file, start)),
     "spaces": ((), spaces),
 }
+
+
+# Lines, of this protocol and of that of figures.py
+
+
+def arguments(readers: dict[str, tuple[Reader, ...]], words: list[str]) -> list[Any]:
+    """What the words of a line hand to its call, where each call's words are to be read so."""
+    name, *behind = words
+    if name not in readers:
+        raise NoCall(UNKNOWN_CALL)
+    if len(behind) != len(readers[name]):
+        raise NoCall(WRONG_NUMBER_OF_WORDS)
+    return [read(word) for read, word in zip(readers[name], behind)]
+
+
+def answer_to(line: str, call: Callable[[list[str]], str]) -> str | None:
+    """The answer to one line, None where it has none, by what makes the call of a line's words or raises NoCall."""
+    if not line or line.startswith("#"):
+        return None
+    try:
+        return call(line.split(" "))
+    except NoCall as no_call:
+        return str(no_call)
+
+
+def answers_to(text: str, answer: Callable[[str], str | None]) -> str:
+    """The answers to all lines of a script, each on its line; a character of the text is a byte."""
+    if len(text) > MOST_BYTES:
+        return SCRIPT_TOO_LONG + "\n"
+    given = (answer(line) for line in text.split("\n"))
+    return "".join(one + "\n" for one in given if one is not None)
 
 
 class Session:
@@ -182,30 +215,17 @@ class Session:
 
     def answer(self, line: str) -> str | None:
         """The answer to one line, None where it has none."""
-        if not line or line.startswith("#"):
-            return None
-        try:
-            return self.call(line.split(" "))
-        except NoCall as no_call:
-            return str(no_call)
+        return answer_to(line, self.call)
 
     def call(self, words: list[str]) -> str:
         """Makes the call of a line's words; where they are none, NoCall is raised and nothing is changed."""
-        name, *behind = words
-        if name not in CALLS:
-            raise NoCall(UNKNOWN_CALL)
-        readers, make = CALLS[name]
-        if len(behind) != len(readers):
-            raise NoCall(WRONG_NUMBER_OF_WORDS)
-        *values, self.sheet = make(self.sheet, *(read(word) for read, word in zip(readers, behind)))
+        given = arguments({name: readers for name, (readers, _) in CALLS.items()}, words)
+        *values, self.sheet = CALLS[words[0]][1](self.sheet, *given)
         return " ".join(map(str, values))
 
     def answers(self, text: str) -> str:
-        """The answers to all lines of a script, each on its line; a character of the text is a byte."""
-        if len(text) > MOST_BYTES:
-            return SCRIPT_TOO_LONG + "\n"
-        given = (self.answer(line) for line in text.split("\n"))
-        return "".join(one + "\n" for one in given if one is not None)
+        """The answers to all lines of a script."""
+        return answers_to(text, self.answer)
 
 
 def answers(text: str) -> str:

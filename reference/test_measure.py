@@ -11,7 +11,6 @@ from unittest import mock
 from reference import figures, measure as m
 from reference.figures import Space, uniform
 from reference.measure import B, H, R, S, U
-from reference.survey import NoCall
 
 
 class FiguresOfThePaper(unittest.TestCase):
@@ -316,19 +315,27 @@ class Protocol(unittest.TestCase):
         self.assertEqual(figures.answers("# one\n\nballast 1 1\nballast 0 1\n"), "1\n0\n")
 
     def test_lines_outside_the_protocol(self) -> None:
-        for line in (
-            "spaces 1", "space", "space 3 4800 1600", "space 3 4800 1600 -", "space 3 4800 1600 - - -", "space 3 -1 1600 - -",
-            "space 3  4800 1600 - -", "space 3 4800 1600 1, 1", "space 3 4800 1600 1,-",
-            "space 3 4800 1600 1" + ",1" * 1024 + " -", "ballast 1", "ballast 1 2 3", "ballast 1 18446744073709551616", "hatchways 1_0 1", " ballast 1 1",
-            "ballast 1 1 ", "ballast 1 1\r",
+        for line, remark in (
+            ("spaces 1", "unknown call"), (" ballast 1 1", "unknown call"), ("open 1200", "unknown call"),
+            ("space", "wrong number of words"), ("space 3 4800 1600 -", "wrong number of words"),
+            ("space 3 4800 1600 - - -", "wrong number of words"), ("ballast 1", "wrong number of words"),
+            ("ballast 1 2 3", "wrong number of words"), ("ballast 1 1 ", "wrong number of words"),
+            ("space 3 -1 1600 - -", "not a number"), ("space 3  1600 - -", "not a number"),
+            ("space 3 4800 1600 1, 1", "not a number"), ("space 3 4800 1600 1,- -", "not a number"),
+            ("hatchways 1_0 1", "not a number"), ("ballast 1 1\r", "not a number"), ("ballast - 1", "not a number"),
+            ("ballast 1 18446744073709551616", "number too large"), ("space 3 4800 1600 - 18446744073709551616", "number too large"),
+            ("space 3 4800 1600 1" + ",1" * 1024 + " -", "list too long"),
         ):
-            with self.assertRaises(NoCall, msg=line):
-                figures.answer(line)
+            self.assertEqual(figures.answer(line), f"? {remark}", msg=line)
+
+    def test_script_too_long(self) -> None:
+        self.assertEqual(figures.answers("ballast 1 1\n" + "#" * (2**20 - 12)), "1\n")
+        self.assertEqual(figures.answers("ballast 1 1\n" + "#" * (2**20 - 11)), "? script too long\n")
 
     def test_a_line_hands_in_its_space(self) -> None:
         space = Space(1, 2, 3, [4, 5], [6, 7, 8])
         self.assertEqual(space.line(), "space 1 2 3 4,5 6,7,8")
-        self.assertEqual(figures.space_of(space.line().split(" ")[1:]), space)
+        self.assertEqual(figures.space_of(space.line()), space)
 
     def run_main(self, arguments: list[str], text: str = "") -> tuple[int, str]:
         """The exit status and what is printed."""
@@ -352,14 +359,14 @@ class Script(unittest.TestCase):
         lines = [line for line in cls.text.split("\n") if figures.answer(line) is not None]
         cls.answered = list(zip(lines, figures.answers(cls.text).split("\n")))
         cls.spaces = [
-            (figures.space_of(line.split(" ")[1:]), *map(int, given.split(" ")))
-            for line, given in cls.answered if line.startswith("space ")
+            (figures.space_of(line), *map(int, given.split(" ")))
+            for line, given in cls.answered if line.startswith("space ") and not given.startswith("?")
         ]
         cls.accepted = [(space, tonnage, parts) for space, number, tonnage, parts, _ in cls.spaces if number == 0]
 
     def amounts(self, first: str) -> list[tuple[int, int]]:
         """The amounts of all `hatchways` or all `ballast` lines."""
-        found = (line.split(" ") for line, _ in self.answered)
+        found = (line.split(" ") for line, given in self.answered if not given.startswith("?"))
         return [(int(words[1]), int(words[2])) for words in found if words[0] == first]
 
     def test_form(self) -> None:
@@ -372,6 +379,12 @@ class Script(unittest.TestCase):
 
     def test_reproducible(self) -> None:
         self.assertEqual(figures.script(), self.text)
+
+    def test_every_remark_that_a_line_can_get(self) -> None:
+        found = {given for _, given in self.answered if given.startswith("?")}
+        self.assertEqual(found, {
+            "? unknown call", "? wrong number of words", "? not a number", "? number too large", "? list too long",
+        })
 
     def test_begins_with_the_figures_of_the_paper(self) -> None:
         self.assertEqual([given for _, given in self.answered[:11]], [

@@ -15,7 +15,7 @@ from reference.scripts import a_thousand, chain, divided, enter, hatchway, mark,
 from reference.sheet import BALLAST, DEDUCTED, EXEMPT, PLAIN, Sheet, Space
 from reference.survey import Session
 
-BEGINNINGS = ("open", "read")  # they 'take no sheet and answer a new one'
+BEGINNINGS = ("open", "read", "before")  # they 'take no sheet and answer a new one'
 CHANGES = ("enter", "withdraw", "mark")
 LOOKS = ("counts", "spaces", "report")
 WRITES = ("write", "writef")
@@ -687,7 +687,7 @@ class Protocol(OfCalls):
         words = {name: len(readers) for name, (readers, _) in survey.CALLS.items()}
         self.assertEqual(words, {
             "open": 1, "enter": 7, "withdraw": 1, "mark": 2, "undo": 0, "redo": 0, "counts": 0, "report": 1,
-            "write": 3, "writef": 4, "read": 1, "spaces": 0,
+            "write": 3, "writef": 4, "read": 1, "before": 2, "spaces": 0,
         })
 
     def test_command_line(self) -> None:
@@ -866,7 +866,7 @@ class StandardScript(unittest.TestCase):
             "open": {0, 2}, "enter": {0, 1, 2, 3, 4, 5, 6, 7, 8, 9, 10}, "withdraw": {0, 1, 5, 11},
             "mark": {0, 1, 2, 5, 6, 8}, "undo": {0, 1, 12}, "redo": {0, 1, 12}, "counts": {0},
             "report": {0, 1, 2, 13, 14}, "write": {0, 1, 2, 13, 14, 15}, "writef": {0, 1, 2, 13, 14, 15},
-            "read": {0, 13, 14, 16, 17, 18}, "spaces": {0},
+            "read": {0, 13, 14, 16, 17, 18}, "before": {0, 13, 14, 16, 17, 18}, "spaces": {0},
         }
         for call, expected in numbers.items():
             self.assertEqual({step.number for step in self.of(call)}, expected, msg=call)

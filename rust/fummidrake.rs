@@ -152,6 +152,7 @@ mod calls {
         pub safe fn fummidrake_breadths_at_station(kind: u8, middle: u32) -> usize;
         pub fn fummidrake_write(sheet: Sheet, justified: u8, buf: *mut u8, buf_bytes: usize, at: usize) -> Written;
         pub fn fummidrake_read(file: *const u8, file_bytes: usize) -> Reading;
+        pub fn fummidrake_read_before(file: *const u8, file_bytes: usize, start: usize) -> Reading;
         pub fn fummidrake_list(file: *const u8, file_bytes: usize) -> Listing;
     }
 }
@@ -251,11 +252,17 @@ pub fn breadths_at_station(kind: u8, middle: u32) -> usize {
     calls::fummidrake_breadths_at_station(kind, middle)
 }
 
-/// Reads the last sheet of a file, which may be any bytes; `&file[..start]` are the earlier sheets, read the same way. Refused, with a
+/// Reads the last sheet of a file, which may be any bytes; the bytes ahead of its start are the earlier sheets, read the same way. Refused, with a
 /// sheet not open, mark 0 and start 0, with 16, 17, 13, 14, 18.
 pub fn read(file: &[u8]) -> Reading {
     // SAFETY: the pointer and its bytes are one slice's.
     unsafe { calls::fummidrake_read(file.as_ptr(), file.len()) }
+}
+
+/// Reads the sheet before the start of another in the same file, by the same rules; its own start counts from the file's first byte.
+pub fn read_before(file: &[u8], start: usize) -> Reading {
+    // SAFETY: the pointer and its bytes are one slice's.
+    unsafe { calls::fummidrake_read_before(file.as_ptr(), file.len(), start) }
 }
 
 /// Lists the last sheet of a file: its tonnage length, a line a space, gross and net; or REFUSED, the number and the position. A file has at

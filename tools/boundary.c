@@ -139,6 +139,9 @@ static void buffers(void) {
         memcpy(file, before, part);
         fummidrake_reading reading = fummidrake_read(file, part);
         HOLDS(!fits || part != at + 76 || (reading.number == 0 && reading.start == at));
+        fummidrake_reading again = fummidrake_read_before(file, part, part + any(3));
+        HOLDS(again.number == reading.number && again.position == reading.position && again.start == reading.start);
+        HOLDS(fummidrake_read_before(file, part, any(28)).number == 16);
         HOLDS((fummidrake_list(file, part).text[0] == 'R') == (reading.number != 0));
     }
 }

@@ -116,6 +116,11 @@ static void read(void) {
     number = reading.number;
 }
 
+static void read_before(void) {
+    reading = fummidrake_read_before(day, DAY, DAY);
+    number = reading.number;
+}
+
 static void list(void) {
     listing = fummidrake_list(day, DAY);
     number = listing.text[0] == 'L' ? 0 : 1;
@@ -145,6 +150,7 @@ static const struct {
     ROW(breadths_at_station, FUMMIDRAKE_STACK_BREADTHS_AT_STATION),
     ROW_ON(write, FUMMIDRAKE_STACK_WRITE),
     ROW(read, FUMMIDRAKE_STACK_READ),
+    ROW(read_before, FUMMIDRAKE_STACK_READ_BEFORE),
     ROW(list, FUMMIDRAKE_STACK_LIST),
 };
 

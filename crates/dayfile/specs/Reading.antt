@@ -4,7 +4,7 @@ use mathlib.Core.Path.{_≡_}
 use mathlib.Core.Bool.{Bool, true, false, cond, not, _||_}
 use mathlib.Core.List.{List, [], _∷_, _++_}
 use lib.Dec.{eqb, ltb}
-use lib.ListN.{length, drop, getD}
+use lib.ListN.{length, take, drop, getD}
 use Rattle.measure.specs.Refusals.{firstOf}
 use Rattle.standard.specs.Gross.{gross, net}
 use Rattle.spaces.specs.declared.space.Space.{Space}
@@ -97,6 +97,10 @@ readOf file =
     cond (eqb (readNumber file) 0)
     (acceptedReading (sheetIn file) (lastTrailer file .justified) (startOf file))
     (refusedReading (readNumber file) (cond (eqb (readNumber file) 17) (faultIn file) 0))
+
+-- "the bytes ahead of that start are the earlier sheets, read the same way"
+abbrev pub readBefore : List ℕ → ℕ → Reading
+readBefore file start = readOf (take start file)
 
 -- An accepted reading as facts: 16, 17, then 13 or 14, then 18, none of which applies, and what is answered (proofs/laws/Reading).
 pub record ReadingAccepted (file : List ℕ) : Type 0 where

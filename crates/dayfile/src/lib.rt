@@ -14,5 +14,6 @@ pub use reading::Reading;
 pub use reading::part_before;
 pub use reading::part_from;
 pub use reading::read;
+pub use reading::read_before;
 pub use writing::Written;
 pub use writing::write;

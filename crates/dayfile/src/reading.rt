@@ -10,7 +10,7 @@ use sheet::Sheet;
 ghost use mathlib.Core.Path.{_≡_};
 ghost use mathlib.Core.Bool.{false};
 ghost use lib.ListN.{take, drop};
-ghost use Rattle.dayfile.specs.Reading.{noSheet, lastTrailer, refusedReading, readOf};
+ghost use Rattle.dayfile.specs.Reading.{noSheet, lastTrailer, refusedReading, readOf, readBefore};
 ghost use Rattle.dayfile.specs.Handed.{judgedReading};
 
 // The paper's number, 0 where accepted, and the position of the record where it is 17; then the sheet, its justified mark
@@ -34,13 +34,20 @@ pub fn read(file: &[u8]) -> Reading
     let trailer = last_trailer(file);
     let count = trailer.count;
     let start = file.len() - sheet_size(count);
-    let spaces = read_records(&file[start..], count);
+    let spaces = read_records(part_from(file, start), count);
     let resumed = Sheet::resume(trailer.tonnage_length, spaces, count);
     if resumed.position != 0 {
         return refused(17, resumed.position);
     }
     let sheet = resumed.sheet;
     judged(sheet, trailer, start)
+}
+
+// Reads the sheet before a start; what it answers as its own start is counted from the beginning of the file too.
+pub fn read_before(file: &[u8], start: usize) -> Reading
+    ensures { λ r. ⌜ r ≡ readBefore (now (file .entry)) start ⌝ }
+{
+    read(part_before(file, start))
 }
 
 // Whether the file ends in no sheet at all.

@@ -202,6 +202,10 @@ pub dayfile-read :
     One dayfile.read.ended dayfile.read.Reads.Asked dayfile.read.Reads.Learnt
 dayfile-read _ = record { nothing-asked = tt; one-answer = agree; one-left = λ p q. refl }
 
+pub dayfile-read-before :
+    One dayfile.read_before.ended dayfile.read_before.Reads.Asked dayfile.read_before.Reads.Learnt
+dayfile-read-before _ = record { nothing-asked = tt; one-answer = agree; one-left = λ p q. refl }
+
 pub dayfile-part-from :
     OneBy dayfile.part_from.ended dayfile.part_from.Reads.Asked dayfile.part_from.Reads.Learnt (λ lives. now)
 dayfile-part-from _ = record { nothing-asked = tt; one-answer = agree; one-left = λ p q. refl }
@@ -216,13 +220,13 @@ dayfile-write _ =
     record { nothing-asked = tt; one-answer = λ p q. agree (p .0) (q .0); one-left = λ p q. ap (λ b. (tt, (tt, (b, (tt, tt))))) (agree (p .1) (q .1)) }
 
 -- script
-pub script-call-named :
-    One script.calls.call_named.ended script.calls.call_named.Reads.Asked script.calls.call_named.Reads.Learnt
-script-call-named _ = record { nothing-asked = tt; one-answer = agree; one-left = λ p q. refl }
+pub script-survey-line :
+    One script.calls.survey_line.ended script.calls.survey_line.Reads.Asked script.calls.survey_line.Reads.Learnt
+script-survey-line _ = record { nothing-asked = tt; one-answer = agree; one-left = λ p q. refl }
 
-pub script-judge :
-    One script.calls.judge.ended script.calls.judge.Reads.Asked script.calls.judge.Reads.Learnt
-script-judge _ = record { nothing-asked = tt; one-answer = agree; one-left = λ p q. refl }
+pub script-figures-line :
+    One script.calls.figures_line.ended script.calls.figures_line.Reads.Asked script.calls.figures_line.Reads.Learnt
+script-figures-line _ = record { nothing-asked = tt; one-answer = agree; one-left = λ p q. refl }
 
 pub script-is-hex :
     One script.hex.is_hex.ended script.hex.is_hex.Reads.Asked script.hex.is_hex.Reads.Learnt
@@ -238,9 +242,18 @@ pub script-digits :
 script-digits _ =
     record { nothing-asked = tt; one-answer = λ p q. agree (p .0) (q .0); one-left = λ p q. ap (λ b. (tt, (b, tt))) (agree (p .1) (q .1)) }
 
-pub script-part-end :
-    One script.words.part_end.ended script.words.part_end.Reads.Asked script.words.part_end.Reads.Learnt
-script-part-end _ = record { nothing-asked = tt; one-answer = agree; one-left = λ p q. refl }
+pub script-remark-text :
+    One script.remarks.remark_text.ended script.remarks.remark_text.Reads.Asked script.remarks.remark_text.Reads.Learnt
+script-remark-text _ =
+    record { nothing-asked = tt; one-answer = λ p q. agree (p .0) (q .0); one-left = λ p q. ap (λ b. (tt, (b, tt))) (agree (p .1) (q .1)) }
+
+pub script-buffer :
+    One script.text.script_buffer.ended script.text.script_buffer.Reads.Asked script.text.script_buffer.Reads.Learnt
+script-buffer _ = record { nothing-asked = tt; one-answer = λ p q. agree (p .0) (q .0); one-left = λ p q. refl }
+
+pub script-part-at :
+    OneBy script.words.part_at.ended script.words.part_at.Reads.Asked script.words.part_at.Reads.Learnt (λ lives. now)
+script-part-at _ = record { nothing-asked = tt; one-answer = agree; one-left = λ p q. refl }
 
 pub script-marks :
     One script.words.marks.ended script.words.marks.Reads.Asked script.words.marks.Reads.Learnt
@@ -357,6 +370,10 @@ fummidrake-write _ =
 pub fummidrake-read :
     One fummidrake.fummidrake_read.ended fummidrake.fummidrake_read.Reads.Asked fummidrake.fummidrake_read.Reads.Learnt
 fummidrake-read _ = record { nothing-asked = tt; one-answer = agree; one-left = λ p q. refl }
+
+pub fummidrake-read-before :
+    One fummidrake.fummidrake_read_before.ended fummidrake.fummidrake_read_before.Reads.Asked fummidrake.fummidrake_read_before.Reads.Learnt
+fummidrake-read-before _ = record { nothing-asked = tt; one-answer = agree; one-left = λ p q. refl }
 
 pub fummidrake-list :
     One fummidrake.fummidrake_list.ended fummidrake.fummidrake_list.Reads.Asked fummidrake.fummidrake_list.Reads.Learnt

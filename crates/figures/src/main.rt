@@ -5,47 +5,63 @@
 //   hatchways G SUM                                     answers   ALLOWANCE EXCESS
 //   ballast BALLAST GROSS                               answers   1 where over 30%, else 0
 //
-// Words, numbers and lists are those of `survey`; every other line gives no answer.
+// Words, numbers and lists are those of `survey`, and so are the remarks on a line that is none of these.
 use libc::STDIN_FILENO;
 use libc::STDOUT_FILENO;
 use measure::units::Hundredths;
+use script::calls;
+use script::calls::Line;
+use script::remarks;
+use script::remarks::Remark;
+use script::text;
 use script::words;
-ghost use mathlib.Core.Path.{_≡_};
-ghost use lib.ListN.{length};
+
+// The calls, by the places of their forms (`script::calls::figures_line`); the last is `ballast`.
+const SPACE: usize = 0;
+
+const HATCHWAYS: usize = 1;
 
 fn main() {
-    let mut text = script_buffer();
-    let n = io::read_full(STDIN_FILENO, &mut text);
-    answer_lines(&text[..n]);
+    let mut script = text::script_buffer();
+    let n = io::read_full(STDIN_FILENO, &mut script);
+    if text::MOST_BYTES < n {
+        answer_remark(Remark::ScriptTooLong);
+        return;
+    }
+    answer_lines(&script[..n]);
 }
 
-// Room for a script. The `ensures` gives only the length, which lending the array as a slice needs.
-fn script_buffer() -> [u8; 1048576]
-    ensures { λ r. ⌜ 1048576 ≡ length r ⌝ }
-{
-    [0; 1048576]
-}
-
-fn answer_lines(text: &[u8]) {
+fn answer_lines(script: &[u8]) {
     let mut at = 0;
-    while at < text.len() {
-        let end = words::part_end(text, at, b'\n');
-        answer(&text[at..end]);
-        at = end + 1;
+    while at < script.len() {
+        let line = words::part_at(script, at, b'\n');
+        answer(line);
+        at += line.len() + 1;
     }
 }
 
 fn answer(line: &[u8]) {
-    let name = words::word(line, 0);
-    if words::same(name, b"space") {
-        answer_space(line);
+    let is = calls::figures_line(line);
+    match is {
+        Line::Passed => (),
+        Line::Call(call) => answer_call(line, call),
+        Line::Remarked(remark) => answer_remark(remark),
     }
-    if words::same(name, b"hatchways") {
-        answer_hatchways(line);
+}
+
+fn answer_call(line: &[u8], call: usize) {
+    match call {
+        SPACE => answer_space(line),
+        HATCHWAYS => answer_hatchways(line),
+        _ => answer_ballast(line),
     }
-    if words::same(name, b"ballast") {
-        answer_ballast(line);
-    }
+}
+
+fn answer_remark(remark: Remark) {
+    let mut text = [0u8; 32];
+    let n = remarks::remark_text(remark, &mut text);
+    io::write_all(STDOUT_FILENO, &text[..n]);
+    io::write_all(STDOUT_FILENO, b"\n");
 }
 
 fn answer_space(line: &[u8]) {

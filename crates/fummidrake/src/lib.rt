@@ -23,7 +23,7 @@ ghost use Rattle.measure.specs.Offsets.{stations as stationsOf, breadthsAtStati
 ghost use Rattle.sheet.specs.Sheet.{usable, lengthOf, standingCount, spaceAt};
 ghost use Rattle.sheet.specs.Calls.{openedWith, entered, withdrawn, marked, undone, redone, counted, reported};
 ghost use Rattle.dayfile.specs.Writing.{written, writtenInto};
-ghost use Rattle.dayfile.specs.Reading.{readOf};
+ghost use Rattle.dayfile.specs.Reading.{readOf, readBefore};
 ghost use Rattle.listing.specs.Listing.{listed};
 
 #[no_mangle]
@@ -151,6 +151,13 @@ pub extern "C" fn fummidrake_read(file: &[u8]) -> Reading
     ensures { λ r. ⌜ r ≡ readOf (now (file .entry)) ⌝ }
 {
     dayfile::read(file)
+}
+
+#[no_mangle]
+pub extern "C" fn fummidrake_read_before(file: &[u8], start: usize) -> Reading
+    ensures { λ r. ⌜ r ≡ readBefore (now (file .entry)) start ⌝ }
+{
+    dayfile::read_before(file, start)
 }
 
 #[no_mangle]

@@ -11,12 +11,10 @@ use borrow.Author.Tests.{lt-ltb, le-ltb, le-leb, lt-leb, eq-eqb, eqb-true, ltb-t
 use lib.Dec.{ltb, eqb}
 use lib.ListN.{length, getD, length-map}
 use Rattle.script.specs.Words.{onFirst, partsOf, marksIn, first, behind, sameText, isDecimal, isLetter, isDigit, allDigits, valueBehind}
-use Rattle.script.specs.Words.{measureOf, isEmptyList, numbersOf, measuresOf}
+use Rattle.script.specs.Words.{wordAt, measureOf, isEmptyList, numbersOf, measuresOf}
 use Rattle.script.specs.Hex.{isHex, digitValue, hexDigit, bytesOf, hexOf}
-use Rattle.script.specs.Calls.{names, callNamed, judgedNumbers, judgedList, judgedHex}
-use Rattle.script.specs.declared.calls.Call.{Call}
-use Rattle.script.specs.declared.calls.Named.the-variants.{Known}
-use Rattle.script.specs.declared.calls.Remark.the-variants.{ListTooLong, FileTooLong, NotHex}
+use Rattle.script.specs.Calls.{surveyForms, figuresForms, placeOf, judgedNumbers, judgedList, judgedHex}
+use Rattle.script.specs.declared.remarks.Remark.the-variants.{ListTooLong, FileTooLong, NotHex}
 use Rattle.script.specs.declared.calls.Judged.the-variants.{Fits, NoCall}
 use Rattle.script.proofs.laws.Parts.{part-at, parts-counted}
 use Rattle.script.proofs.laws.Hex.{decimal-range, letter-range}
@@ -150,9 +148,16 @@ hex-written (x ∷ y ∷ rest) even e =
 
 -- ---- calls
 
--- each name of the table is its call's alone
-pub each-named : map (λ (row : List ℕ × Call). callNamed (row .0)) names ≡ map (λ (row : List ℕ × Call). Known (row .1)) names
-each-named = refl
+-- the place of each form's name among the forms
+abbrev pub placesIn : List (List ℕ) → List ℕ
+placesIn forms = map (λ (form : List ℕ). placeOf (wordAt 0 form) forms) forms
+
+-- it is the form's own: a name is one call's alone
+pub each-of-survey : placesIn surveyForms ≡ 0 ∷ 1 ∷ 2 ∷ 3 ∷ 4 ∷ 5 ∷ 6 ∷ 7 ∷ 8 ∷ 9 ∷ 10 ∷ 11 ∷ 12 ∷ []
+each-of-survey = refl
+
+pub each-of-figures : placesIn figuresForms ≡ 0 ∷ 1 ∷ 2 ∷ []
+each-of-figures = refl
 
 -- a list that fits has no more numbers than 1,024, so that all of them are laid into so many places
 pub list-fits : (list : List ℕ) → judgedList list ≡ Fits → length (measuresOf list) ≤ 1024

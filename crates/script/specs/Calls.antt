@@ -1,70 +1,56 @@
--- Which call a line is, and which remark it gets where it is none ("Calls" of the protocol): the first that fits, of its first word,
--- of the number of its words, then of the words behind the call from left to right.
+-- What a line of a program is ("Calls" of the protocols): passed over, a call, or no call, and then the first remark that fits: of its
+-- first word, of the number of its words, then of the words behind the call from left to right.
 -- Stands on: Text (ascii), Words (words, numbers, lists), Hex.
 use Prim.Native.Nat.{ℕ, _+_}
-use mathlib.Core.Bool.{cond}
+use Prim.Native.Char.{code}
+use mathlib.Core.Bool.{Bool, true, cond}
 use mathlib.Core.List.{List, [], _∷_}
 use lib.Dec.{ltb, eqb}
-use lib.ListN.{length, drop}
+use lib.ListN.{length, drop, getD}
 use Rattle.script.specs.Text.{ascii}
-use Rattle.script.specs.Words.{wordsOf, sameText, numberOf, valueIn, isEmptyList, numbersOf}
+use Rattle.script.specs.Words.{wordsOf, wordAt, sameText, numberOf, valueIn, isEmptyList, numbersOf}
 use Rattle.script.specs.Hex.{isHex}
 use Rattle.script.specs.declared.words.Number.{Number}
 use Rattle.script.specs.declared.words.Number.the-variants.{Value, NotANumber as noNumber, TooLarge}
-use Rattle.script.specs.declared.calls.Call.{Call}
-use Rattle.script.specs.declared.calls.Call.the-variants.{Open, Enter, Withdraw, Mark, Undo, Redo, Counts, Report, Write, WriteFilled, Read, Spaces}
-use Rattle.script.specs.declared.calls.Named.{Named}
-use Rattle.script.specs.declared.calls.Named.the-variants.{Known, Unknown}
-use Rattle.script.specs.declared.calls.Remark.{Remark}
-use Rattle.script.specs.declared.calls.Remark.the-variants.{WrongNumberOfWords, NotANumber, NumberTooLarge, ListTooLong, BufferTooLarge, NotAByte, FileTooLong, NotHex}
+use Rattle.script.specs.declared.remarks.Remark.{Remark}
+use Rattle.script.specs.declared.remarks.Remark.the-variants.{UnknownCall, WrongNumberOfWords, NotANumber, NumberTooLarge, ListTooLong, BufferTooLarge, NotAByte, FileTooLong, NotHex}
 use Rattle.script.specs.declared.calls.Judged.{Judged}
 use Rattle.script.specs.declared.calls.Judged.the-variants.{Fits, NoCall}
-use Rattle.script.specs.declared.calls.Asked.{Asked}
-use Rattle.script.specs.declared.calls.Asked.the-variants.{Number as aNumber, List as aList, Size as aSize, Fill as aFill, Hex as aFile}
+use Rattle.script.specs.declared.calls.Line.{Line}
+use Rattle.script.specs.declared.calls.Line.the-variants.{Passed, Call, Remarked}
 
--- ---- the call of a name
+-- ---- the calls of each program, as forms: a call's name, and behind it what each of its words is to be
 
--- the names of the calls
-abbrev pub names : List (List ℕ × Call)
-names =
-    (ascii "open", Open)
-    ∷ (ascii "enter", Enter)
-    ∷ (ascii "withdraw", Withdraw)
-    ∷ (ascii "mark", Mark)
-    ∷ (ascii "undo", Undo)
-    ∷ (ascii "redo", Redo)
-    ∷ (ascii "counts", Counts)
-    ∷ (ascii "report", Report)
-    ∷ (ascii "write", Write)
-    ∷ (ascii "writef", WriteFilled)
-    ∷ (ascii "read", Read)
-    ∷ (ascii "spaces", Spaces)
+abbrev pub surveyForms : List (List ℕ)
+surveyForms =
+    ascii "open number"
+    ∷ ascii "enter number number number number number list list"
+    ∷ ascii "withdraw number"
+    ∷ ascii "mark number number"
+    ∷ ascii "undo"
+    ∷ ascii "redo"
+    ∷ ascii "counts"
+    ∷ ascii "report number"
+    ∷ ascii "write number number size"
+    ∷ ascii "writef number number size fill"
+    ∷ ascii "read hex"
+    ∷ ascii "before number hex"
+    ∷ ascii "spaces"
     ∷ []
 
--- the call that has this name in a table
-abbrev pub namedIn : List (List ℕ × Call) → List ℕ → Named
-namedIn [] word = Unknown
-namedIn ((name, call) ∷ others) word = cond (sameText word name) (Known call) (namedIn others word)
+abbrev pub figuresForms : List (List ℕ)
+figuresForms =
+    ascii "space number number number list list"
+    ∷ ascii "hatchways number number"
+    ∷ ascii "ballast number number"
+    ∷ []
 
-abbrev pub callNamed : List ℕ → Named
-callNamed word = namedIn names word
+-- the place of the form with a name, from 0; as many as there are forms where none has it
+abbrev pub placeOf : List ℕ → List (List ℕ) → ℕ
+placeOf name [] = 0
+placeOf name (form ∷ others) = cond (sameText (wordAt 0 form) name) 0 (1 + placeOf name others)
 
 -- ---- the words behind a call
-
--- what each is to be
-abbrev pub asked : Call → List Asked
-asked Open = aNumber ∷ []
-asked Enter = aNumber ∷ aNumber ∷ aNumber ∷ aNumber ∷ aNumber ∷ aList ∷ aList ∷ []
-asked Withdraw = aNumber ∷ []
-asked Mark = aNumber ∷ aNumber ∷ []
-asked Undo = []
-asked Redo = []
-asked Counts = []
-asked Report = aNumber ∷ []
-asked Write = aNumber ∷ aNumber ∷ aSize ∷ []
-asked WriteFilled = aNumber ∷ aNumber ∷ aSize ∷ aFill ∷ []
-asked Read = aFile ∷ []
-asked Spaces = []
 
 -- the remark of one, else what comes next
 abbrev pub orElse : Judged → Judged → Judged
@@ -99,23 +85,41 @@ judgedHex word =
     cond (isEmptyList word) Fits
     (cond (ltb 131072 (length word)) (NoCall FileTooLong) (cond (isHex word) Fits (NoCall NotHex)))
 
--- "SIZE is at most 65,536"; FILL is "0 to 255"
-abbrev pub judgedWord : Asked → List ℕ → Judged
-judgedWord aNumber word = judgedNumber word
-judgedWord aList word = judgedList word
-judgedWord aSize word = judgedUpTo 65536 BufferTooLarge word
-judgedWord aFill word = judgedUpTo 255 NotAByte word
-judgedWord aFile word = judgedHex word
+-- a word, by the form's word for it: "SIZE is at most 65,536"; FILL is "0 to 255"
+unfoldable pub judgedWord : List ℕ → List ℕ → Judged
+judgedWord asked word =
+    cond (sameText asked (ascii "list")) (judgedList word)
+    (cond (sameText asked (ascii "size")) (judgedUpTo 65536 BufferTooLarge word)
+    (cond (sameText asked (ascii "fill")) (judgedUpTo 255 NotAByte word)
+    (cond (sameText asked (ascii "hex")) (judgedHex word) (judgedNumber word))))
 
 -- words, as many as are asked, from left to right
-abbrev pub judgedWords : List Asked → List (List ℕ) → Judged
+abbrev pub judgedWords : List (List ℕ) → List (List ℕ) → Judged
 judgedWords [] words = Fits
-judgedWords (one ∷ others) [] = Fits
-judgedWords (one ∷ others) (word ∷ words) = orElse (judgedWord one word) (judgedWords others words)
+judgedWords (asked ∷ others) [] = Fits
+judgedWords (asked ∷ others) (word ∷ words) = orElse (judgedWord asked word) (judgedWords others words)
 
 -- the line of a call: the number of its words, then those behind the call's name
-unfoldable pub judged : List ℕ → Call → Judged
-judged line call =
-    cond (eqb (length (wordsOf line)) (1 + length (asked call)))
-    (judgedWords (asked call) (drop 1 (wordsOf line)))
+unfoldable pub judged : List ℕ → List ℕ → Judged
+judged form line =
+    cond (eqb (length (wordsOf line)) (length (wordsOf form)))
+    (judgedWords (drop 1 (wordsOf form)) (drop 1 (wordsOf line)))
     (NoCall WrongNumberOfWords)
+
+-- ---- a line
+
+-- "An empty line and a line that begins with '#' have no answer"
+abbrev pub isPassed : List ℕ → Bool
+isPassed [] = true
+isPassed (x ∷ xs) = eqb x (code "#")
+
+-- a call, where its words fit
+abbrev pub lineOf : ℕ → Judged → Line
+lineOf place Fits = Call place
+lineOf place (NoCall remark) = Remarked remark
+
+unfoldable pub lineBy : List (List ℕ) → List ℕ → Line
+lineBy forms line =
+    let place = placeOf (wordAt 0 line) forms in
+    cond (isPassed line) Passed
+    (cond (ltb place (length forms)) (lineOf place (judged (getD forms place []) line)) (Remarked UnknownCall))

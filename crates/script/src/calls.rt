@@ -1,63 +1,25 @@
-// Which call a line is, and whether its words are what the call asks. A line that is no call gets the first remark that
-// fits: of its first word, of the number of its words, then of the words behind the call from left to right.
+// What a line of a program is, by the forms of the program's calls. A line that is no call gets the first remark that fits:
+// of its first word, of the number of its words, then of the words behind the call from left to right.
 use crate::hex;
+use crate::remarks::Remark;
 use crate::words;
 use crate::words::Number;
 ghost use mathlib.Core.Path.{_≡_};
-ghost use Prim.Native.Nat.{_<_};
-ghost use mathlib.Core.Bool.{cond};
-ghost use lib.ListN.{length, getD};
-ghost use Rattle.script.specs.Words.{sameText};
-ghost use Rattle.script.specs.Calls.{callNamed, asked, judged};
+ghost use Rattle.script.specs.Words.{partsOf};
+ghost use Rattle.script.specs.Calls.{surveyForms, figuresForms, lineBy, isPassed, placeOf, judged};
 ghost use Rattle.script.specs.Calls.{judgedNumber, judgedUpTo, judgedList, judgedHex, judgedWord};
 
-pub enum Call {
-    Open,
-    Enter,
-    Withdraw,
-    Mark,
-    Undo,
-    Redo,
-    Counts,
-    Report,
-    Write,
-    WriteFilled,
-    Read,
-    Spaces,
-}
-
-pub enum Remark {
-    UnknownCall,
-    WrongNumberOfWords,
-    NotANumber,
-    NumberTooLarge,
-    ListTooLong,
-    BufferTooLarge,
-    NotAByte,
-    FileTooLong,
-    NotHex,
-    ScriptTooLong,
-}
-
-// A line by its first word.
-pub enum Named {
-    Known(Call),
-    Unknown,
+// What a line is: passed over, a call by the place of its form from 0, or no call.
+pub enum Line {
+    Passed,
+    Call(usize),
+    Remarked(Remark),
 }
 
 // The words behind a call, or one of them.
 pub enum Judged {
     Fits,
     NoCall(Remark),
-}
-
-// What a word behind a call is to be: a size is that of a buffer, a fill what all its bytes are.
-pub enum Asked {
-    Number,
-    List,
-    Size,
-    Fill,
-    Hex,
 }
 
 const MOST_NUMBERS: usize = 1024;
@@ -68,107 +30,96 @@ const GREATEST_BYTE: u64 = 255;
 // Two digits a byte.
 const MOST_DIGITS: usize = 131072;
 
-// The call of a name, looked for among the names from the last to the first.
-pub fn call_named(word: &[u8]) -> Named
-    ensures { λ r. ⌜ r ≡ callNamed (now (word .entry)) ⌝ }
+// A line of `survey`, by the forms of its calls.
+pub fn survey_line(line: &[u8]) -> Line
+    ensures { λ r. ⌜ r ≡ lineBy surveyForms (now (line .entry)) ⌝ }
 {
-    let named = named_or(word, b"spaces", Call::Spaces, Named::Unknown);
-    let named = named_or(word, b"read", Call::Read, named);
-    let named = named_or(word, b"writef", Call::WriteFilled, named);
-    let named = named_or(word, b"write", Call::Write, named);
-    let named = named_or(word, b"report", Call::Report, named);
-    let named = named_or(word, b"counts", Call::Counts, named);
-    let named = named_or(word, b"redo", Call::Redo, named);
-    let named = named_or(word, b"undo", Call::Undo, named);
-    let named = named_or(word, b"mark", Call::Mark, named);
-    let named = named_or(word, b"withdraw", Call::Withdraw, named);
-    let named = named_or(word, b"enter", Call::Enter, named);
-    named_or(word, b"open", Call::Open, named)
+    line_by(
+        b"open number\n\
+          enter number number number number number list list\n\
+          withdraw number\n\
+          mark number number\n\
+          undo\n\
+          redo\n\
+          counts\n\
+          report number\n\
+          write number number size\n\
+          writef number number size fill\n\
+          read hex\n\
+          before number hex\n\
+          spaces",
+        line,
+    )
 }
 
-// The call, where the word is its name, and else what the others say.
-fn named_or(word: &[u8], name: &[u8], call: Call, others: Named) -> Named
-    ensures { λ r. ⌜ r ≡ cond (sameText (now (word .entry)) (now (name .entry))) (Named.Known call) others ⌝ }
+// A line of `figures`.
+pub fn figures_line(line: &[u8]) -> Line
+    ensures { λ r. ⌜ r ≡ lineBy figuresForms (now (line .entry)) ⌝ }
 {
-    if words::same(word, name) {
-        return Named::Known(call);
+    line_by(
+        b"space number number number list list\n\
+          hatchways number number\n\
+          ballast number number",
+        line,
+    )
+}
+
+// A line by forms, one a line: a call's name, and behind it what each of its words is to be.
+fn line_by(forms: &[u8], line: &[u8]) -> Line
+    ensures { λ r. ⌜ r ≡ lineBy (partsOf 10 (now (forms .entry))) (now (line .entry)) ⌝ }
+{
+    if is_passed(line) {
+        return Line::Passed;
     }
-    others
-}
-
-// How many words a call asks behind it.
-fn words_asked(call: Call) -> usize
-    ensures { λ r. ⌜ r ≡ length (asked call) ⌝ }
-{
-    match call {
-        Call::Open => 1,
-        Call::Enter => 7,
-        Call::Withdraw => 1,
-        Call::Mark => 2,
-        Call::Undo => 0,
-        Call::Redo => 0,
-        Call::Counts => 0,
-        Call::Report => 1,
-        Call::Write => 3,
-        Call::WriteFilled => 4,
-        Call::Read => 1,
-        Call::Spaces => 0,
+    let place = place_of(forms, words::word(line, 0));
+    if words::marks(forms, b'\n') < place {
+        return Line::Remarked(Remark::UnknownCall);
     }
-}
-
-// What the word at a place behind a call is to be, from 0.
-fn asked_at(call: Call, place: usize) -> Asked
-    requires { ⌜ place < length (asked call) ⌝ }
-    ensures { λ r. ⌜ r ≡ getD (asked call) place Asked.Number ⌝ }
-{
-    match call {
-        Call::Open => Asked::Number,
-        Call::Enter => asked_of_entry(place),
-        Call::Withdraw => Asked::Number,
-        Call::Mark => Asked::Number,
-        Call::Undo => Asked::Number,
-        Call::Redo => Asked::Number,
-        Call::Counts => Asked::Number,
-        Call::Report => Asked::Number,
-        Call::Write => asked_of_write(place),
-        Call::WriteFilled => asked_of_write(place),
-        Call::Read => Asked::Hex,
-        Call::Spaces => Asked::Number,
+    let judged = judge(words::part(forms, place, b'\n'), line);
+    match judged {
+        Judged::Fits => Line::Call(place),
+        Judged::NoCall(remark) => Line::Remarked(remark),
     }
 }
 
-fn asked_of_entry(place: usize) -> Asked
-    requires { ⌜ place < length (asked Call.Enter) ⌝ }
-    ensures { λ r. ⌜ r ≡ getD (asked Call.Enter) place Asked.Number ⌝ }
+// Empty, or a note.
+fn is_passed(line: &[u8]) -> bool
+    ensures { λ r. ⌜ r ≡ isPassed (now (line .entry)) ⌝ }
 {
-    if place < 5 {
-        return Asked::Number;
+    if line.len() == 0 {
+        return true;
     }
-    Asked::List
+    line[0] == b'#'
 }
 
-// With a fill or without.
-fn asked_of_write(place: usize) -> Asked
-    ensures { λ r. ⌜ r ≡ getD (asked Call.WriteFilled) place Asked.Number ⌝ }
+// The place of the form with a name; as many as there are forms where none has it.
+fn place_of(forms: &[u8], name: &[u8]) -> usize
+    ensures { λ r. ⌜ r ≡ placeOf (now (name .entry)) (partsOf 10 (now (forms .entry))) ⌝ }
 {
-    match place {
-        2 => Asked::Size,
-        3 => Asked::Fill,
-        _ => Asked::Number,
+    let mut place = 0;
+    let mut at = 0;
+    while at <= forms.len() {
+        let form = words::part_at(forms, at, b'\n');
+        if words::same(words::word(form, 0), name) {
+            return place;
+        }
+        place += 1;
+        at += form.len() + 1;
     }
+    place
 }
 
-// The words of a line, by the call that it is.
-pub fn judge(line: &[u8], call: Call) -> Judged
-    ensures { λ r. ⌜ r ≡ judged (now (line .entry)) call ⌝ }
+// The words of a line, by the form of its call.
+fn judge(form: &[u8], line: &[u8]) -> Judged
+    ensures { λ r. ⌜ r ≡ judged (now (form .entry)) (now (line .entry)) ⌝ }
 {
-    let behind = words_asked(call);
+    let behind = words::marks(form, b' ');
     if words::marks(line, b' ') != behind {
         return Judged::NoCall(Remark::WrongNumberOfWords);
     }
     let mut k = 0;
     while k < behind {
-        let judged = judge_word(words::word(line, k + 1), asked_at(call, k));
+        let judged = judge_word(words::word(form, k + 1), words::word(line, k + 1));
         let Judged::Fits = judged else {
             return judged;
         };
@@ -177,16 +128,23 @@ pub fn judge(line: &[u8], call: Call) -> Judged
     Judged::Fits
 }
 
-fn judge_word(word: &[u8], asked: Asked) -> Judged
-    ensures { λ r. ⌜ r ≡ judgedWord asked (now (word .entry)) ⌝ }
+// A word, by the form's word for it.
+fn judge_word(asked: &[u8], word: &[u8]) -> Judged
+    ensures { λ r. ⌜ r ≡ judgedWord (now (asked .entry)) (now (word .entry)) ⌝ }
 {
-    match asked {
-        Asked::Number => judge_number(word),
-        Asked::List => judge_list(word),
-        Asked::Size => judge_up_to(word, GREATEST_SIZE, Remark::BufferTooLarge),
-        Asked::Fill => judge_up_to(word, GREATEST_BYTE, Remark::NotAByte),
-        Asked::Hex => judge_hex(word),
+    if words::same(asked, b"list") {
+        return judge_list(word);
     }
+    if words::same(asked, b"size") {
+        return judge_up_to(word, GREATEST_SIZE, Remark::BufferTooLarge);
+    }
+    if words::same(asked, b"fill") {
+        return judge_up_to(word, GREATEST_BYTE, Remark::NotAByte);
+    }
+    if words::same(asked, b"hex") {
+        return judge_hex(word);
+    }
+    judge_number(word)
 }
 
 // A number, and at most a greatest one.
@@ -242,12 +200,12 @@ fn judge_list(list: &[u8]) -> Judged
     }
     let mut at = 0;
     while at <= list.len() {
-        let end = words::part_end(list, at, b',');
-        let judged = judge_number(&list[at..end]);
+        let one = words::part_at(list, at, b',');
+        let judged = judge_number(one);
         let Judged::Fits = judged else {
             return judged;
         };
-        at = end + 1;
+        at += one.len() + 1;
     }
     Judged::Fits
 }

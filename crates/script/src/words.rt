@@ -3,9 +3,10 @@
 ghost use mathlib.Core.Path.{_≡_};
 ghost use mathlib.Core.Bool.{true, false};
 ghost use Prim.Native.Nat.{_≤_};
-ghost use lib.ListN.{length, drop};
+ghost use mathlib.Core.List.{[]};
+ghost use lib.ListN.{length, drop, getD};
 ghost use Rattle.script.specs.Laid.{fitting, laid};
-ghost use Rattle.script.specs.Words.{behind, partEnd, marksIn, sameText, wordAt};
+ghost use Rattle.script.specs.Words.{partsOf, first, behind, partEnd, marksIn, sameText, wordAt};
 ghost use Rattle.script.specs.Words.{isDecimal, isLetter, isDigit, allDigits, valueBehind, held, numberOf, valueIn};
 ghost use Rattle.script.specs.Words.{idOf, codeOf, measureOf, sizeOf, isEmptyList, measuresOf};
 
@@ -20,8 +21,19 @@ const GREATEST: u64 = 18446744073709551615;
 // The greatest number that has room for a digit behind it.
 const GREATEST_TENS: u64 = 1844674407370955161;
 
-// The end of the part that begins at `at`; past the text's end, `at` itself.
-pub fn part_end(text: &[u8], at: usize, mark: u8) -> usize
+// The part that begins at a place, up to the mark that ends it; past the text's end an empty one.
+pub fn part_at(text: &[u8], at: usize, mark: u8) -> &[u8]
+    ensures { λ r. ⌜ now r ≡ first mark (drop at (now (text .entry))) ⌝ }
+{
+    if text.len() < at {
+        return &text[..0];
+    }
+    let end = part_end(text, at, mark);
+    &text[at..end]
+}
+
+// Its end; past the text's end, `at` itself.
+fn part_end(text: &[u8], at: usize, mark: u8) -> usize
     ensures { λ r. ⌜ r ≡ partEnd mark at (now (text .entry)) ⌝ }
 {
     let mut i = at;
@@ -68,13 +80,18 @@ pub fn marks(text: &[u8], mark: u8) -> usize
     n
 }
 
+// The part behind the first k marks, empty where there are fewer.
+pub(crate) fn part(text: &[u8], k: usize, mark: u8) -> &[u8]
+    ensures { λ r. ⌜ now r ≡ getD (partsOf mark (now (text .entry))) k [] ⌝ }
+{
+    part_at(text, part_start(text, k, mark), mark)
+}
+
 // The word of a line at a place from 0, empty where it has fewer.
 pub fn word(line: &[u8], place: usize) -> &[u8]
     ensures { λ r. ⌜ now r ≡ wordAt place (now (line .entry)) ⌝ }
 {
-    let start = part_start(line, place, b' ');
-    let end = part_end(line, start, b' ');
-    &line[start..end]
+    part(line, place, b' ')
 }
 
 pub fn same(a: &[u8], b: &[u8]) -> bool
@@ -248,10 +265,10 @@ pub fn measures(list: &[u8], into: &mut [u32]) -> usize
         if list.len() < at {
             return n;
         }
-        let end = part_end(list, at, b',');
-        into[n] = measure_in(&list[at..end]);
+        let one = part_at(list, at, b',');
+        into[n] = measure_in(one);
         n += 1;
-        at = end + 1;
+        at += one.len() + 1;
     }
     n
 }

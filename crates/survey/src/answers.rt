@@ -3,8 +3,9 @@
 use dayfile::Reading;
 use dayfile::Written;
 use libc::STDOUT_FILENO;
-use script::calls::Remark;
 use script::hex;
+use script::remarks;
+use script::remarks::Remark;
 use sheet::Changed;
 use sheet::Counted;
 use sheet::Reported;
@@ -16,18 +17,10 @@ ghost use lib.ListN.{length};
 const BYTES_AT_A_TIME: usize = 2048;
 
 pub fn remark(remark: Remark) {
-    match remark {
-        Remark::UnknownCall => print(b"? unknown call\n"),
-        Remark::WrongNumberOfWords => print(b"? wrong number of words\n"),
-        Remark::NotANumber => print(b"? not a number\n"),
-        Remark::NumberTooLarge => print(b"? number too large\n"),
-        Remark::ListTooLong => print(b"? list too long\n"),
-        Remark::BufferTooLarge => print(b"? buffer too large\n"),
-        Remark::NotAByte => print(b"? not a byte\n"),
-        Remark::FileTooLong => print(b"? file too long\n"),
-        Remark::NotHex => print(b"? not hex\n"),
-        Remark::ScriptTooLong => print(b"? script too long\n"),
-    }
+    let mut text = [0u8; 32];
+    let n = remarks::remark_text(remark, &mut text);
+    print(&text[..n]);
+    print(b"\n");
 }
 
 pub fn changed(changed: Changed) -> Sheet {
@@ -81,9 +74,10 @@ pub fn spaces(sheet: Sheet) -> Sheet {
 // Each standing space in order of entry.
 fn print_spaces(sheet: Sheet) {
     let count = sheet.standing_count();
+    let spaces = sheet.places();
     let mut place = 0;
     while place < count {
-        print_space(sheet.space_at(place));
+        print_space(spaces[place]);
         place += 1;
     }
 }

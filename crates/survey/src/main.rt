@@ -3,74 +3,71 @@
 // What it prints is tested, not proved.
 mod answers;
 
+use dayfile::Reading;
 use libc::STDIN_FILENO;
 use script::calls;
-use script::calls::Call;
-use script::calls::Judged;
-use script::calls::Named;
-use script::calls::Remark;
+use script::calls::Line;
 use script::hex;
+use script::remarks::Remark;
+use script::text;
 use script::words;
 use sheet::Changed;
 use sheet::Entry;
 use sheet::Sheet;
-ghost use mathlib.Core.Path.{_≡_};
-ghost use lib.ListN.{length};
 
-const MOST_BYTES: usize = 1048576;
+// The calls, by the places of their forms (`script::calls::survey_line`); the last is `spaces`.
+const OPEN: usize = 0;
+
+const ENTER: usize = 1;
+
+const WITHDRAW: usize = 2;
+
+const MARK: usize = 3;
+
+const UNDO: usize = 4;
+
+const REDO: usize = 5;
+
+const COUNTS: usize = 6;
+
+const REPORT: usize = 7;
+
+const WRITE: usize = 8;
+
+const WRITE_FILLED: usize = 9;
+
+const READ: usize = 10;
+
+const READ_BEFORE: usize = 11;
 
 fn main() {
-    let mut text = script_buffer();
-    let n = io::read_full(STDIN_FILENO, &mut text);
-    if MOST_BYTES < n {
+    let mut script = text::script_buffer();
+    let n = io::read_full(STDIN_FILENO, &mut script);
+    if text::MOST_BYTES < n {
         answers::remark(Remark::ScriptTooLong);
         return;
     }
-    answer_lines(&text[..n]);
-}
-
-// Room for a script and a byte more, by which one too long is told. The `ensures` gives only the length, which lending
-// the array as a slice needs.
-fn script_buffer() -> [u8; 1048577]
-    ensures { λ r. ⌜ 1048577 ≡ length r ⌝ }
-{
-    [0; 1048577]
+    answer_lines(&script[..n]);
 }
 
 // At the start the current sheet is one not open.
-fn answer_lines(text: &[u8]) {
+fn answer_lines(script: &[u8]) {
     let mut sheet = Sheet::closed();
     let mut at = 0;
-    while at < text.len() {
-        let end = words::part_end(text, at, b'\n');
-        sheet = answer_line(sheet, &text[at..end]);
-        at = end + 1;
+    while at < script.len() {
+        let line = words::part_at(script, at, b'\n');
+        sheet = answer_line(sheet, line);
+        at += line.len() + 1;
     }
 }
 
 // Answers a line, if it has an answer, and hands back the sheet after it.
 fn answer_line(sheet: Sheet, line: &[u8]) -> Sheet {
-    if line.len() == 0 {
-        return sheet;
-    }
-    if line[0] == b'#' {
-        return sheet;
-    }
-    let named = calls::call_named(words::word(line, 0));
-    match named {
-        Named::Known(call) => answer_call(sheet, line, call),
-        Named::Unknown => {
-            answers::remark(Remark::UnknownCall);
-            sheet
-        }
-    }
-}
-
-fn answer_call(sheet: Sheet, line: &[u8], call: Call) -> Sheet {
-    let judged = calls::judge(line, call);
-    match judged {
-        Judged::Fits => make(sheet, line, call),
-        Judged::NoCall(remark) => {
+    let is = calls::survey_line(line);
+    match is {
+        Line::Passed => sheet,
+        Line::Call(call) => make(sheet, line, call),
+        Line::Remarked(remark) => {
             answers::remark(remark);
             sheet
         }
@@ -78,20 +75,21 @@ fn answer_call(sheet: Sheet, line: &[u8], call: Call) -> Sheet {
 }
 
 // Makes a call with the words of its line.
-fn make(sheet: Sheet, line: &[u8], call: Call) -> Sheet {
+fn make(sheet: Sheet, line: &[u8], call: usize) -> Sheet {
     match call {
-        Call::Open => answers::changed(Sheet::open(words::measure_in(words::word(line, 1)))),
-        Call::Enter => answers::changed(enter(sheet, line)),
-        Call::Withdraw => answers::changed(sheet.withdraw(words::id_in(words::word(line, 1)))),
-        Call::Mark => answers::changed(mark(sheet, line)),
-        Call::Undo => answers::changed(sheet.undo()),
-        Call::Redo => answers::changed(sheet.redo()),
-        Call::Counts => answers::counted(sheet.counts()),
-        Call::Report => answers::reported(sheet.report(words::code_in(words::word(line, 1)))),
-        Call::Write => write(sheet, line, 0),
-        Call::WriteFilled => write(sheet, line, words::code_in(words::word(line, 4))),
-        Call::Read => read(line),
-        Call::Spaces => answers::spaces(sheet),
+        OPEN => answers::changed(Sheet::open(words::measure_in(words::word(line, 1)))),
+        ENTER => answers::changed(enter(sheet, line)),
+        WITHDRAW => answers::changed(sheet.withdraw(words::id_in(words::word(line, 1)))),
+        MARK => answers::changed(mark(sheet, line)),
+        UNDO => answers::changed(sheet.undo()),
+        REDO => answers::changed(sheet.redo()),
+        COUNTS => answers::counted(sheet.counts()),
+        REPORT => answers::reported(sheet.report(words::code_in(words::word(line, 1)))),
+        WRITE => write(sheet, line, 0),
+        WRITE_FILLED => write(sheet, line, words::code_in(words::word(line, 4))),
+        READ => read(line, 1, false),
+        READ_BEFORE => read(line, 2, true),
+        _ => answers::spaces(sheet),
     }
 }
 
@@ -109,10 +107,18 @@ fn write_into(sheet: Sheet, justified: u8, buffer: &mut [u8], at: usize) -> Shee
     answers::written(written, buffer)
 }
 
-fn read(line: &[u8]) -> Sheet {
+// Reads the file at a place of the line: its last sheet, or the one before the start that the line says.
+fn read(line: &[u8], place: usize, earlier: bool) -> Sheet {
     let mut file = io::large_buffer();
-    let n = hex::bytes(words::word(line, 1), &mut file);
-    answers::read(dayfile::read(&file[..n]))
+    let n = hex::bytes(words::word(line, place), &mut file);
+    answers::read(reading(line, &file[..n], earlier))
+}
+
+fn reading(line: &[u8], file: &[u8], earlier: bool) -> Reading {
+    if earlier {
+        return dayfile::read_before(file, words::value_in(words::word(line, 1)) as usize);
+    }
+    dayfile::read(file)
 }
 
 fn mark(sheet: Sheet, line: &[u8]) -> Changed {

@@ -29,7 +29,6 @@ use Rattle.dayfile.specs.Trailer.{trailerSize, sheetSize, trailerRight}
 use Rattle.dayfile.specs.Reading.{lastNumbers, lastTrailer, startOf, lastRecords, noSheet, faulty, firstFaulty, faultIn, sheetIn, trailerTests, readNumber, refusedReading, acceptedReading, readOf, ReadingAccepted}
 use Rattle.dayfile.specs.Handed.{readAs, eachReadAs, judgedReading}
 use Rattle.dayfile.specs.declared.trailer.Trailer.{Trailer}
-use Rattle.dayfile.proofs.laws.Stores.{lent-part}
 use Rattle.dayfile.proofs.laws.Trailer.{distance-is, within-trailer, tonnage-length-fits}
 
 -- ---- 16
@@ -159,14 +158,14 @@ module _ (file : List ℕ) (off : noSheet file ≡ false) where
   count-fits = within-trailer (lastNumbers file) 1 (lit< tt) (framed file off .right)
 
   pub resumed-last : (t : Trailer) (start : ℕ) (row : List Space) (r : Resumed) → t ≡ lastTrailer file → start ≡ startOf file
-      → take (t .count) row ≡ eachReadAs (recordsIn (t .count) (take (length file - start) (drop start file)))
+      → take (t .count) row ≡ eachReadAs (recordsIn (t .count) (drop start file))
       → r ≡ resumed (t .«tonnage_length») (take (t .count) row)
       → (r .position ≡ faultIn file) × (faultIn file ≡ 0 → r .sheet ≡ sheetIn file)
   unfolding faultIn sheetIn
   resumed-last t start row r e₁ e₂ read e₃ =
       let L = lastTrailer file .«tonnage_length» in
       let all : take (t .count) row ≡ eachReadAs (lastRecords file) =
-      read ∙ ap (λ (bytes : List ℕ). eachReadAs (recordsIn (t .count) bytes)) (lent-part file start) ∙ rw (e₁, e₂) in
+      read ∙ rw (e₁, e₂) in
       let same : r ≡ resumed L (eachReadAs (lastRecords file)) = e₃ ∙ rw (all, e₁) in
       let fits = tonnage-length-fits (drop (length file - trailerSize) file) (framed file off .right) in
       let q = resumes L (lastRecords file) fits in

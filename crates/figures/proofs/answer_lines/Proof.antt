@@ -2,56 +2,41 @@
 use Prim.Native.Nat.{_-_}
 use native.Mathlib.Omega.{arith}
 use lib.ListN.{length}
-use Rattle.script.proofs.laws.Parts.{part-ends}
+use Rattle.script.proofs.laws.Parts.{part-fits}
 use borrow.Author.Needs.{needs}
 use Rattle.figures.proofs.answer_lines.Statement.{statement}
 use Rattle.figures.proofs.answer_lines.Tie as tie
 
 abbrev Inv-loop : tie.InvT-loop
-Inv-loop text at₀ at =
+Inv-loop script at₀ at =
     Unit
 
 abbrev μ-loop : tie.MeasureT-loop
-μ-loop text at₀ at = length text - at
+μ-loop script at₀ at = length script - at
 
 loop-holds : tie.Need-loop-holds Inv-loop μ-loop
 loop-holds c = search needs
 
-part-end-requires : tie.Need-part-end-requires Inv-loop μ-loop
-part-end-requires c κs = search needs
-
-sub-answer : tie.Need-sub-answer Inv-loop μ-loop
-sub-answer c =
-    let l = c .before .before in
-    let ends = part-ends 10 (l .before .before .args .text .now) (l .loop .at) (c .part-end .ensures) (omega arith) in
-    search needs
-
-part-answer-start : tie.Need-part-answer-start Inv-loop μ-loop
-part-answer-start c =
-    let l = c .before .before in
-    let ends = part-ends 10 (l .before .before .args .text .now) (l .loop .at) (c .part-end .ensures) (omega arith) in
-    search needs
-
-part-answer-end : tie.Need-part-answer-end Inv-loop μ-loop
-part-answer-end c =
-    let l = c .before .before in
-    let ends = part-ends 10 (l .before .before .args .text .now) (l .loop .at) (c .part-end .ensures) (omega arith) in
-    search needs
+part-at-requires : tie.Need-part-at-requires Inv-loop μ-loop
+part-at-requires c κs = search needs
 
 answer-requires : tie.Need-answer-requires Inv-loop μ-loop
 answer-requires c κs = search needs
 
 add-at : tie.Need-add-at Inv-loop μ-loop
 add-at c =
-    let l = c .before .before .before .before in
-    let ends = part-ends 10 (l .before .before .args .text .now) (l .loop .at) (c .before .before .part-end .ensures) (omega arith) in
+    let l = c .before .before .before in
+    let fits = part-fits 10 (l .before .before .args .script .now) (l .loop .at) (c .before .part-at .ensures) (omega arith) in
+    search needs
+
+add-at-2 : tie.Need-add-at-2 Inv-loop μ-loop
+add-at-2 c =
+    let l = c .before .before .before in
+    let fits = part-fits 10 (l .before .before .args .script .now) (l .loop .at) (c .before .part-at .ensures) (omega arith) in
     search needs
 
 loop-less : tie.Need-loop-less Inv-loop μ-loop
-loop-less c =
-    let l = c .before .before .before .before in
-    let ends = part-ends 10 (l .before .before .args .text .now) (l .loop .at) (c .before .before .part-end .ensures) (omega arith) in
-    search needs
+loop-less c = omega arith
 
 loop-again : tie.Need-loop-again Inv-loop μ-loop
 loop-again c = search needs
@@ -66,12 +51,10 @@ answer-lines-spec =
     Inv-loop
     μ-loop
     loop-holds
-    part-end-requires
-    sub-answer
-    part-answer-start
-    part-answer-end
+    part-at-requires
     answer-requires
     add-at
+    add-at-2
     loop-less
     loop-again
     returns)

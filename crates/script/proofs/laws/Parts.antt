@@ -164,15 +164,15 @@ module _ (m : ℕ) (xs : List ℕ) (at : ℕ) {end : ℕ} (e : end ≡ partEnd m
       let l : end ≤ length xs = omega (arith, first-within m (drop at xs), length-drop at xs) in
       (omega arith, l)
 
-  part-taken : take (end - at) (drop at xs) ≡ first m (drop at xs)
+  pub part-taken : take (end - at) (drop at xs) ≡ first m (drop at xs)
   unfolding partEnd
   part-taken =
       let n : end - at ≡ length (first m (drop at xs)) = omega arith in
       ap (λ (j : ℕ). take j (drop at xs)) n ∙ take-first m (drop at xs)
 
-  -- from the place behind k marks to its end it is the part at k
-  pub part-at-taken : (k : ℕ) → drop at xs ≡ behind m k xs → take (end - at) (drop at xs) ≡ getD (partsOf m xs) k []
-  part-at-taken k b = part-taken ∙ ap (first m) b ∙ part-at m k xs
+-- past the text's end there is no part
+pub no-part : (m : ℕ) (xs : List ℕ) (at : ℕ) → length xs ≤ at → first m (drop at xs) ≡ []
+no-part m xs at h = ap (first m) (drop-of-length-le xs {i = at} h)
 
 -- ---- a walk from part to part
 
@@ -188,29 +188,34 @@ pub parts-ended : (m : ℕ) (xs : List ℕ) (at : ℕ) → length xs < at → pa
 unfolding partsFrom
 parts-ended m xs at h = rw (lt-leb at (length xs) h)
 
-module _ (m : ℕ) (xs : List ℕ) (at : ℕ) {end : ℕ} (e : end ≡ partEnd m at xs) (h : at ≤ length xs) where
+module _ (m : ℕ) (xs : List ℕ) (at : ℕ) {part : List ℕ} (e : part ≡ first m (drop at xs)) (h : at ≤ length xs) where
+  -- the part that begins here ends within the text
+  pub part-fits : at + length part ≤ length xs
+  part-fits = omega (arith, ap length e, first-within m (drop at xs), length-drop at xs)
+
   parts-here : partsFrom m at xs ≡ partsOf m (drop at xs)
   unfolding partsFrom
   parts-here = rw (le-leb at (length xs) h)
 
-  behind-end : length (first m (drop at xs)) < length (drop at xs) → partsFrom m (end + 1) xs ≡ partsOf m (rest m (drop at xs))
-  unfolding partsFrom partEnd
+  behind-end : length (first m (drop at xs)) < length (drop at xs)
+      → partsFrom m (at + (length part + 1)) xs ≡ partsOf m (rest m (drop at xs))
+  unfolding partsFrom
   behind-end g =
       let f = length (first m (drop at xs)) in
-      let k : end + 1 ≡ at + suc f = omega arith in
-      rw (le-leb (end + 1) (length xs) (omega (arith, length-drop at xs)), k, ← drop-drop (suc f) at xs, rest-cut m (drop at xs) g)
+      let k : at + (length part + 1) ≡ at + suc f = omega (arith, ap length e) in
+      rw (le-leb (at + (length part + 1)) (length xs) (omega (arith, ap length e, length-drop at xs)), k, ← drop-drop (suc f) at xs, rest-cut m (drop at xs) g)
 
-  -- the part that begins here, and those behind its end
-  pub parts-ahead : partsFrom m at xs ≡ take (end - at) (drop at xs) ∷ partsFrom m (end + 1) xs
-  unfolding partEnd
+  -- it, and those behind its end
+  pub parts-ahead : partsFrom m at xs ≡ part ∷ partsFrom m (at + (length part + 1)) xs
   parts-ahead =
       let f = first m (drop at xs) in
+      let behind = partsFrom m (at + (length part + 1)) xs in
       parts-here
       ∙ ⊎-elim
-      (λ w. parts-one m (drop at xs) (omega arith) ∙ ap (λ (l : List (List ℕ)). f ∷ l) (sym (parts-ended m xs (end + 1) (omega (arith, length-drop at xs)))))
+      (λ w. parts-one m (drop at xs) (omega arith) ∙ ap (λ (l : List (List ℕ)). f ∷ l) (sym (parts-ended m xs (at + (length part + 1)) (omega (arith, ap length e, length-drop at xs)))))
       (λ g. parts-cut m (drop at xs) g ∙ ap (λ (l : List (List ℕ)). f ∷ l) (sym (behind-end g)))
       (eq-or-lt-of-le (first-within m (drop at xs)))
-      ∙ ap (λ (l : List ℕ). l ∷ partsFrom m (end + 1) xs) (sym (part-taken m xs at e))
+      ∙ ap (λ (l : List ℕ). l ∷ behind) (sym e)
 
 -- ---- two texts
 

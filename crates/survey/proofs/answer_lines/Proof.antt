@@ -2,17 +2,17 @@
 use Prim.Native.Nat.{_-_}
 use native.Mathlib.Omega.{arith}
 use lib.ListN.{length}
-use Rattle.script.proofs.laws.Parts.{part-ends}
+use Rattle.script.proofs.laws.Parts.{part-fits}
 use borrow.Author.Needs.{needs}
 use Rattle.survey.proofs.answer_lines.Statement.{statement}
 use Rattle.survey.proofs.answer_lines.Tie as tie
 
 abbrev Inv-loop : tie.InvT-loop
-Inv-loop text sheet₀ at₀ sheet at =
+Inv-loop script sheet₀ at₀ sheet at =
     Unit
 
 abbrev μ-loop : tie.MeasureT-loop
-μ-loop text sheet₀ at₀ sheet at = length text - at
+μ-loop script sheet₀ at₀ sheet at = length script - at
 
 closed-requires : tie.Need-closed-requires Inv-loop μ-loop
 closed-requires c κs = search needs
@@ -20,41 +20,26 @@ closed-requires c κs = search needs
 loop-holds : tie.Need-loop-holds Inv-loop μ-loop
 loop-holds c = search needs
 
-part-end-requires : tie.Need-part-end-requires Inv-loop μ-loop
-part-end-requires c κs = search needs
-
-sub-answer-line : tie.Need-sub-answer-line Inv-loop μ-loop
-sub-answer-line c =
-    let l = c .before .before in
-    let ends = part-ends 10 (l .before .before .before .args .text .now) (l .loop .at) (c .part-end .ensures) (omega arith) in
-    search needs
-
-part-answer-line-start : tie.Need-part-answer-line-start Inv-loop μ-loop
-part-answer-line-start c =
-    let l = c .before .before in
-    let ends = part-ends 10 (l .before .before .before .args .text .now) (l .loop .at) (c .part-end .ensures) (omega arith) in
-    search needs
-
-part-answer-line-end : tie.Need-part-answer-line-end Inv-loop μ-loop
-part-answer-line-end c =
-    let l = c .before .before in
-    let ends = part-ends 10 (l .before .before .before .args .text .now) (l .loop .at) (c .part-end .ensures) (omega arith) in
-    search needs
+part-at-requires : tie.Need-part-at-requires Inv-loop μ-loop
+part-at-requires c κs = search needs
 
 answer-line-requires : tie.Need-answer-line-requires Inv-loop μ-loop
 answer-line-requires c κs = search needs
 
 add-at : tie.Need-add-at Inv-loop μ-loop
 add-at c =
-    let l = c .before .before .before .before in
-    let ends = part-ends 10 (l .before .before .before .args .text .now) (l .loop .at) (c .before .before .part-end .ensures) (omega arith) in
+    let l = c .before .before .before in
+    let fits = part-fits 10 (l .before .before .before .args .script .now) (l .loop .at) (c .before .part-at .ensures) (omega arith) in
+    search needs
+
+add-at-2 : tie.Need-add-at-2 Inv-loop μ-loop
+add-at-2 c =
+    let l = c .before .before .before in
+    let fits = part-fits 10 (l .before .before .before .args .script .now) (l .loop .at) (c .before .part-at .ensures) (omega arith) in
     search needs
 
 loop-less : tie.Need-loop-less Inv-loop μ-loop
-loop-less c =
-    let l = c .before .before .before .before in
-    let ends = part-ends 10 (l .before .before .before .args .text .now) (l .loop .at) (c .before .before .part-end .ensures) (omega arith) in
-    search needs
+loop-less c = omega arith
 
 loop-again : tie.Need-loop-again Inv-loop μ-loop
 loop-again c = search needs
@@ -70,12 +55,10 @@ answer-lines-spec =
     μ-loop
     closed-requires
     loop-holds
-    part-end-requires
-    sub-answer-line
-    part-answer-line-start
-    part-answer-line-end
+    part-at-requires
     answer-line-requires
     add-at
+    add-at-2
     loop-less
     loop-again
     returns)

@@ -19,14 +19,14 @@ bytes-requires c κs = search needs
 array-share-prefix-file : tie.Need-array-share-prefix-file
 array-share-prefix-file c = search needs
 
-slice-aggregate-read : tie.Need-slice-aggregate-read
-slice-aggregate-read c = laid-front _ _ (c .before .before .bytes .ensures)
+slice-aggregate-reading : tie.Need-slice-aggregate-reading
+slice-aggregate-reading c = laid-front _ _ (c .before .before .bytes .ensures)
+
+reading-requires : tie.Need-reading-requires
+reading-requires c κs = search needs
 
 read-requires : tie.Need-read-requires
 read-requires c κs = search needs
-
-read-requires-2 : tie.Need-read-requires-2
-read-requires-2 c κs = search needs
 
 returns : tie.Need-returns
 returns c = search needs
@@ -40,7 +40,7 @@ read-spec =
     slice-aggregate-bytes
     bytes-requires
     array-share-prefix-file
-    slice-aggregate-read
+    slice-aggregate-reading
+    reading-requires
     read-requires
-    read-requires-2
     returns)

@@ -2,9 +2,12 @@
 use Prim.Native.Nat.{ℕ, _-_, _≤_}
 use mathlib.Core.Path.{_≡_, sym, ap, _∙_}
 use native.Mathlib.Omega.{arith}
-use lib.ListN.{length, length-take, length-drop}
+use mathlib.Core.List.{List}
+use lib.ListN.{length, length-drop}
+use Rattle.dayfile.specs.Record.{recordsIn}
 use Rattle.dayfile.specs.Trailer.{sheetSize}
 use Rattle.dayfile.specs.Reading.{lastTrailer, startOf, faultIn, sheetIn, refusedReading}
+use Rattle.dayfile.specs.Handed.{eachReadAs}
 use Rattle.dayfile.specs.declared.trailer.Trailer.{Trailer}
 use Rattle.dayfile.proofs.laws.Reading.{framed, count-fits, resumed-last, read-16, read-17, read-judged}
 use borrow.Author.Needs.{needs}
@@ -47,19 +50,15 @@ starts c = ap (λ (n : ℕ). length (c .before .before .before .before .before .
 sub-start : tie.Need-sub-start
 sub-start c = omega (arith, fits-in c)
 
-sub-read-records : tie.Need-sub-read-records
-sub-read-records c = search needs
-
-part-read-records-start : tie.Need-part-read-records-start
-part-read-records-start c = search needs
-
-part-read-records-end : tie.Need-part-read-records-end
-part-read-records-end c = search needs
+part-from-requires : tie.Need-part-from-requires
+part-from-requires c κs = search needs
 
 read-records-requires : tie.Need-read-records-requires
 read-records-requires c κs =
     let file = c .before .before .before .before .before .before .args .file .now in
-    (few (c .before .before), simp (length-take, length-drop) (omega (arith, fits-in (c .before), c .before .sheet-size .ensures)))
+    let start = length file - c .before .sheet-size .result in
+    let all = ap length (c .part-from .ensures) ∙ length-drop start file in
+    (few (c .before .before), omega (arith, all, fits-in (c .before), c .before .sheet-size .ensures))
 
 resume-requires : tie.Need-resume-requires
 resume-requires c κs = search needs
@@ -73,7 +72,9 @@ judged-last : (c : tie.After-resume)
     × (faultIn (c .before .before .before .before .before .before .before .before .args .file .now) ≡ 0 → c .resume .result .sheet ≡ sheetIn (c .before .before .before .before .before .before .before .before .args .file .now))
 judged-last c =
     let file = c .before .before .before .before .before .before .before .before .args .file .now in
-    resumed-last file (sym (c .before .before .before .before .before .before .no-sheet .ensures) ∙ c .before .before .before .before .before .if1 .left) _ _ _ _ (c .before .before .before .before .last-trailer .ensures) (starts (c .before .before .before)) (c .before .read-records .ensures) (c .resume .ensures)
+    let count = c .before .before .before .before .last-trailer .result .count in
+    let read = c .before .read-records .ensures ∙ ap (λ (bytes : List ℕ). eachReadAs (recordsIn count bytes)) (c .before .before .part-from .ensures) in
+    resumed-last file (sym (c .before .before .before .before .before .before .no-sheet .ensures) ∙ c .before .before .before .before .before .if1 .left) _ _ _ _ (c .before .before .before .before .last-trailer .ensures) (starts (c .before .before .before)) read (c .resume .ensures)
 
 returns-2 : tie.Need-returns-2
 returns-2 c =
@@ -104,9 +105,7 @@ read-spec =
     last-trailer-requires
     sheet-size-requires
     sub-start
-    sub-read-records
-    part-read-records-start
-    part-read-records-end
+    part-from-requires
     read-records-requires
     resume-requires
     refused-requires-2

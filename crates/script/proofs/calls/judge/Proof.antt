@@ -1,39 +1,39 @@
--- `calls::judge` meets its contract. The loop's invariant: the line has as many words as are asked, and those from here on are judged as it is.
-use Prim.Native.Nat.{_+_, _-_, _<_}
+-- `calls::judge` meets its contract. The loop's invariant: the line has as many words as the form, and those from here on are judged as it is.
+use Prim.Native.Nat.{_+_, _-_}
 use mathlib.Core.Path.{_≡_, sym, _∙_}
 use native.Mathlib.Omega.{arith}
-use lib.ListN.{length, drop}
+use lib.ListN.{drop}
 use Rattle.script.specs.Words.{marksIn, wordsOf}
-use Rattle.script.specs.Calls.{asked, judgedWords, judged}
+use Rattle.script.specs.Calls.{judgedWords, judged}
 use Rattle.script.proofs.laws.Calls.{words-ahead, words-ended, wrong-number, right-number}
 use borrow.Author.Needs.{needs}
 use Rattle.script.proofs.calls.judge.Statement.{statement}
 use Rattle.script.proofs.calls.judge.Tie as tie
 
 abbrev Inv-loop : tie.InvT-loop
-Inv-loop line call behind k₀ k =
-    (marksIn 32 line ≡ length (asked call))
-    × (judgedWords (drop k (asked call)) (drop (k + 1) (wordsOf line)) ≡ judged line call)
+Inv-loop form line behind k₀ k =
+    (marksIn 32 line ≡ marksIn 32 form)
+    × (judgedWords (drop (k + 1) (wordsOf form)) (drop (k + 1) (wordsOf line)) ≡ judged form line)
 
 abbrev μ-loop : tie.MeasureT-loop
-μ-loop line call behind k₀ k = behind - k
-
-words-asked-requires : tie.Need-words-asked-requires Inv-loop μ-loop
-words-asked-requires c κs = search needs
+μ-loop form line behind k₀ k = behind - k
 
 marks-requires : tie.Need-marks-requires Inv-loop μ-loop
 marks-requires c κs = search needs
 
+marks-requires-2 : tie.Need-marks-requires-2 Inv-loop μ-loop
+marks-requires-2 c κs = search needs
+
 returns : tie.Need-returns Inv-loop μ-loop
 returns c =
-    let a = c .before .before .before .before .args in
-    sym (wrong-number (a .line .now) (a .call) (λ e. c .if1 .taken (c .before .marks .ensures ∙ e ∙ sym (c .before .before .words-asked .ensures))))
+    let a = c .before .before .before .before .before .args in
+    sym (wrong-number (a .form .now) (a .line .now) (λ e. c .if1 .taken (c .before .marks2 .ensures ∙ e ∙ sym (c .before .before .marks .ensures))))
 
 loop-holds : tie.Need-loop-holds Inv-loop μ-loop
 loop-holds c =
-    let a = c .before .before .before .before .args in
-    let n = sym (c .before .marks .ensures) ∙ c .if1 .left ∙ c .before .before .words-asked .ensures in
-    (n, sym (right-number (a .line .now) (a .call) n))
+    let a = c .before .before .before .before .before .args in
+    let same = sym (c .before .marks2 .ensures) ∙ c .if1 .left ∙ c .before .before .marks .ensures in
+    (same, sym (right-number (a .form .now) (a .line .now) same))
 
 add-word : tie.Need-add-word Inv-loop μ-loop
 add-word c = search needs
@@ -41,12 +41,11 @@ add-word c = search needs
 word-requires : tie.Need-word-requires Inv-loop μ-loop
 word-requires c κs = search needs
 
-asked-at-requires : tie.Need-asked-at-requires Inv-loop μ-loop
-asked-at-requires c κs =
-    let l = c .before .before in
-    let t = l .before .before .before in
-    let h : l .loop .k < length (asked (t .before .before .args .call)) = omega (arith, t .words-asked .ensures) in
-    h
+add-word-2 : tie.Need-add-word-2 Inv-loop μ-loop
+add-word-2 c = search needs
+
+word-requires-2 : tie.Need-word-requires-2 Inv-loop μ-loop
+word-requires-2 c κs = search needs
 
 judge-word-requires : tie.Need-judge-word-requires Inv-loop μ-loop
 judge-word-requires c κs = search needs
@@ -59,11 +58,12 @@ enum-told-2 c = search needs
 
 returns-2 : tie.Need-returns-2 Inv-loop μ-loop
 returns-2 c =
-    let w = c .before .before .before .before in
-    let l = w .before .before in
-    let t = l .before .before .before in
+    let w = c .before .before .before in
+    let l = w .before .before .before in
+    let n = l .before .before .before in
+    let a = n .before .before .before .args in
     let told = c .enum-told2 .given .1 in
-    let next = words-ahead (t .before .before .args .line .now) (t .before .before .args .call) (l .loop .k) (l .loop .inv .0) (omega (arith, t .words-asked .ensures)) (c .before .before .before .asked-at .ensures) (w .word .ensures) (c .before .before .judge-word .ensures) told in
+    let next = words-ahead (a .form .now) (a .line .now) (l .loop .inv .0) (l .loop .k) (omega (arith, n .marks .ensures)) (w .before .word .ensures) (w .word2 .ensures) (c .before .before .judge-word .ensures) told in
     told ∙ sym next ∙ l .loop .inv .1
 
 add-k : tie.Need-add-k Inv-loop μ-loop
@@ -74,19 +74,20 @@ loop-less c = omega arith
 
 loop-again : tie.Need-loop-again Inv-loop μ-loop
 loop-again c =
-    let w = c .before .before .before .before in
-    let l = w .before .before in
-    let t = l .before .before .before in
+    let w = c .before .before .before in
+    let l = w .before .before .before in
+    let n = l .before .before .before in
+    let a = n .before .before .before .args in
     let told = c .enum-told .given .1 in
-    let next = words-ahead (t .before .before .args .line .now) (t .before .before .args .call) (l .loop .k) (l .loop .inv .0) (omega (arith, t .words-asked .ensures)) (c .before .before .before .asked-at .ensures) (w .word .ensures) (c .before .before .judge-word .ensures) told in
+    let next = words-ahead (a .form .now) (a .line .now) (l .loop .inv .0) (l .loop .k) (omega (arith, n .marks .ensures)) (w .before .word .ensures) (w .word2 .ensures) (c .before .before .judge-word .ensures) told in
     (l .loop .inv .0, sym next ∙ l .loop .inv .1)
 
 returns-3 : tie.Need-returns-3 Inv-loop μ-loop
 returns-3 c =
     let l = c .before in
-    let t = l .before .before .before in
-    let a = t .before .before .args in
-    sym (words-ended (asked (a .call)) (drop (l .loop .k + 1) (wordsOf (a .line .now))) (l .loop .k) (omega (arith, t .words-asked .ensures))) ∙ l .loop .inv .1
+    let n = l .before .before .before in
+    let a = n .before .before .before .args in
+    sym (words-ended (a .form .now) (a .line .now) (l .loop .inv .0) (l .loop .k) (omega (arith, n .marks .ensures))) ∙ l .loop .inv .1
 
 pub judge-spec : {M : Type 1} → statement M
 judge-spec =
@@ -94,13 +95,14 @@ judge-spec =
     (tie.spec
     Inv-loop
     μ-loop
-    words-asked-requires
     marks-requires
+    marks-requires-2
     returns
     loop-holds
     add-word
     word-requires
-    asked-at-requires
+    add-word-2
+    word-requires-2
     judge-word-requires
     enum-told
     enum-told-2

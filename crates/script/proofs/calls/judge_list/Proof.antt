@@ -10,8 +10,8 @@ use Rattle.script.specs.Words.{partsOf, marksIn, isEmptyList}
 use Rattle.script.specs.Calls.{orElse, judgedNumbers, judgedList}
 use Rattle.script.specs.declared.calls.Judged.{Judged}
 use Rattle.script.specs.declared.calls.Judged.the-variants.{Fits, NoCall}
-use Rattle.script.specs.declared.calls.Remark.the-variants.{ListTooLong}
-use Rattle.script.proofs.laws.Parts.{part-ends, parts-counted, partsFrom, parts-begun, parts-ended, parts-ahead}
+use Rattle.script.specs.declared.remarks.Remark.the-variants.{ListTooLong}
+use Rattle.script.proofs.laws.Parts.{part-fits, parts-counted, partsFrom, parts-begun, parts-ended, parts-ahead}
 use borrow.Author.Needs.{needs}
 use Rattle.script.proofs.calls.judge_list.Statement.{statement}
 use Rattle.script.proofs.calls.judge_list.Tie as tie
@@ -55,26 +55,8 @@ loop-holds c =
     let list = e .before .before .before .args .list .now in
     ap judgedNumbers (parts-begun 44 list) ∙ sym (few-enough list (sym (e .before .is-empty-list .ensures) ∙ e .if1 .left) (omega (arith, c .before .marks .ensures)))
 
-part-end-requires : tie.Need-part-end-requires Inv-loop μ-loop
-part-end-requires c κs = search needs
-
-sub-judge-number : tie.Need-sub-judge-number Inv-loop μ-loop
-sub-judge-number c =
-    let l = c .before .before in
-    let ends = part-ends 44 (l .before .before .before .before .before .before .args .list .now) (l .loop .at) (c .part-end .ensures) (omega arith) in
-    search needs
-
-part-judge-number-start : tie.Need-part-judge-number-start Inv-loop μ-loop
-part-judge-number-start c =
-    let l = c .before .before in
-    let ends = part-ends 44 (l .before .before .before .before .before .before .args .list .now) (l .loop .at) (c .part-end .ensures) (omega arith) in
-    search needs
-
-part-judge-number-end : tie.Need-part-judge-number-end Inv-loop μ-loop
-part-judge-number-end c =
-    let l = c .before .before in
-    let ends = part-ends 44 (l .before .before .before .before .before .before .args .list .now) (l .loop .at) (c .part-end .ensures) (omega arith) in
-    search needs
+part-at-requires : tie.Need-part-at-requires Inv-loop μ-loop
+part-at-requires c κs = search needs
 
 judge-number-requires : tie.Need-judge-number-requires Inv-loop μ-loop
 judge-number-requires c κs = search needs
@@ -87,35 +69,40 @@ enum-told-2 c = search needs
 
 returns-3 : tie.Need-returns-3 Inv-loop μ-loop
 returns-3 c =
-    let l = c .before .before .before .before .before .before in
+    let l = c .before .before .before .before .before in
     let list = l .before .before .before .before .before .before .args .list .now in
-    let end = c .before .before .before .before .part-end in
+    let part = c .before .before .before .part-at in
     let told = c .enum-told2 .given .1 in
-    let next = ap judgedNumbers (parts-ahead 44 list (l .loop .at) (end .ensures) (omega arith)) in
+    let others = judgedNumbers (partsFrom 44 (l .loop .at + (length (part .result .now) + 1)) list) in
+    let next = ap judgedNumbers (parts-ahead 44 list (l .loop .at) (part .ensures) (omega arith)) in
     told
-    ∙ sym (next ∙ ap (λ (j : Judged). orElse j (judgedNumbers (partsFrom 44 (end .result + 1) list))) (sym (c .before .before .judge-number .ensures) ∙ told))
+    ∙ sym (next ∙ ap (λ (j : Judged). orElse j others) (sym (c .before .before .judge-number .ensures) ∙ told))
     ∙ l .loop .inv
 
 add-at : tie.Need-add-at Inv-loop μ-loop
 add-at c =
-    let l = c .before .before .before .before .before .before in
-    let ends = part-ends 44 (l .before .before .before .before .before .before .args .list .now) (l .loop .at) (c .before .before .before .before .part-end .ensures) (omega arith) in
+    let l = c .before .before .before .before .before in
+    let fits = part-fits 44 (l .before .before .before .before .before .before .args .list .now) (l .loop .at) (c .before .before .before .part-at .ensures) (omega arith) in
+    search needs
+
+add-at-2 : tie.Need-add-at-2 Inv-loop μ-loop
+add-at-2 c =
+    let l = c .before .before .before .before .before in
+    let fits = part-fits 44 (l .before .before .before .before .before .before .args .list .now) (l .loop .at) (c .before .before .before .part-at .ensures) (omega arith) in
     search needs
 
 loop-less : tie.Need-loop-less Inv-loop μ-loop
-loop-less c =
-    let l = c .before .before .before .before .before .before in
-    let ends = part-ends 44 (l .before .before .before .before .before .before .args .list .now) (l .loop .at) (c .before .before .before .before .part-end .ensures) (omega arith) in
-    search needs
+loop-less c = omega arith
 
 loop-again : tie.Need-loop-again Inv-loop μ-loop
 loop-again c =
-    let l = c .before .before .before .before .before .before in
+    let l = c .before .before .before .before .before in
     let list = l .before .before .before .before .before .before .args .list .now in
-    let end = c .before .before .before .before .part-end in
+    let part = c .before .before .before .part-at in
     let fits = sym (c .before .before .judge-number .ensures) ∙ c .enum-told .given .1 in
-    let next = ap judgedNumbers (parts-ahead 44 list (l .loop .at) (end .ensures) (omega arith)) in
-    sym (next ∙ ap (λ (j : Judged). orElse j (judgedNumbers (partsFrom 44 (end .result + 1) list))) fits) ∙ l .loop .inv
+    let others = judgedNumbers (partsFrom 44 (l .loop .at + (length (part .result .now) + 1)) list) in
+    let next = ap judgedNumbers (parts-ahead 44 list (l .loop .at) (part .ensures) (omega arith)) in
+    sym (next ∙ ap (λ (j : Judged). orElse j others) fits) ∙ l .loop .inv
 
 returns-4 : tie.Need-returns-4 Inv-loop μ-loop
 returns-4 c =
@@ -134,15 +121,13 @@ judge-list-spec =
     marks-requires
     returns-2
     loop-holds
-    part-end-requires
-    sub-judge-number
-    part-judge-number-start
-    part-judge-number-end
+    part-at-requires
     judge-number-requires
     enum-told
     enum-told-2
     returns-3
     add-at
+    add-at-2
     loop-less
     loop-again
     returns-4)

@@ -6,7 +6,7 @@ use mathlib.Core.List.{List, [], _∷_, map}
 use lib.ListN.{length, length-set}
 use Rattle.script.specs.Words.{measureOf, isEmptyList, measuresOf}
 use Rattle.script.proofs.laws.Laid.{Laying, none-laid, one-more, all-laid, array-full}
-use Rattle.script.proofs.laws.Parts.{part-ends, partsFrom, parts-begun, parts-ended, parts-ahead}
+use Rattle.script.proofs.laws.Parts.{part-fits, partsFrom, parts-begun, parts-ended, parts-ahead}
 use borrow.Author.Needs.{needs}
 use native.Mathlib.Omega.{arith}
 use Rattle.script.proofs.words.measures.Statement.{statement}
@@ -49,26 +49,8 @@ returns-2 c =
     let list = l .before .before .before .before .before .args .list .now in
     all-laid (l .loop .inv .1) (ap (map measureOf) (parts-ended 44 list (l .loop .at) (omega arith)))
 
-part-end-requires : tie.Need-part-end-requires Inv-loop μ-loop
-part-end-requires c κs = search needs
-
-sub-measure-in : tie.Need-sub-measure-in Inv-loop μ-loop
-sub-measure-in c =
-    let l = c .before .before .before in
-    let ends = part-ends 44 (l .before .before .before .before .before .args .list .now) (l .loop .at) (c .part-end .ensures) (omega arith) in
-    search needs
-
-part-measure-in-start : tie.Need-part-measure-in-start Inv-loop μ-loop
-part-measure-in-start c =
-    let l = c .before .before .before in
-    let ends = part-ends 44 (l .before .before .before .before .before .args .list .now) (l .loop .at) (c .part-end .ensures) (omega arith) in
-    search needs
-
-part-measure-in-end : tie.Need-part-measure-in-end Inv-loop μ-loop
-part-measure-in-end c =
-    let l = c .before .before .before in
-    let ends = part-ends 44 (l .before .before .before .before .before .args .list .now) (l .loop .at) (c .part-end .ensures) (omega arith) in
-    search needs
+part-at-requires : tie.Need-part-at-requires Inv-loop μ-loop
+part-at-requires c κs = search needs
 
 measure-in-requires : tie.Need-measure-in-requires Inv-loop μ-loop
 measure-in-requires c κs = search needs
@@ -84,8 +66,14 @@ add-n c = search needs
 
 add-at : tie.Need-add-at Inv-loop μ-loop
 add-at c =
-    let l = c .before .before .before .before .before in
-    let ends = part-ends 44 (l .before .before .before .before .before .args .list .now) (l .loop .at) (c .before .before .part-end .ensures) (omega arith) in
+    let l = c .before .before .before .before in
+    let fits = part-fits 44 (l .before .before .before .before .before .args .list .now) (l .loop .at) (c .before .part-at .ensures) (omega arith) in
+    search needs
+
+add-at-2 : tie.Need-add-at-2 Inv-loop μ-loop
+add-at-2 c =
+    let l = c .before .before .before .before in
+    let fits = part-fits 44 (l .before .before .before .before .before .args .list .now) (l .loop .at) (c .before .part-at .ensures) (omega arith) in
     search needs
 
 loop-less : tie.Need-loop-less Inv-loop μ-loop
@@ -93,12 +81,12 @@ loop-less c = search needs
 
 loop-again : tie.Need-loop-again Inv-loop μ-loop
 loop-again c =
-    let l = c .before .before .before .before .before in
+    let l = c .before .before .before .before in
     let list = l .before .before .before .before .before .args .list .now in
-    let end = c .before .before .part-end in
+    let part = c .before .part-at in
     let measure = c .measure-in .result in
-    let left = map measureOf (partsFrom 44 (end .result + 1) list) in
-    let next = ap (map measureOf) (parts-ahead 44 list (l .loop .at) (end .ensures) (omega arith)) ∙ ap (λ (x : ℕ). x ∷ left) (sym (c .measure-in .ensures)) in
+    let left = map measureOf (partsFrom 44 (l .loop .at + (length (part .result .now) + 1)) list) in
+    let next = ap (map measureOf) (parts-ahead 44 list (l .loop .at) (part .ensures) (omega arith)) ∙ ap (λ (x : ℕ). x ∷ left) (sym (c .measure-in .ensures)) in
     (length-set (l .loop .into) (l .loop .n) measure ∙ l .loop .inv .0, one-more (l .loop .inv .1) measure left next (omega arith))
 
 same-length-2 : tie.Need-same-length-2 Inv-loop μ-loop
@@ -120,15 +108,13 @@ measures-spec =
     loop-holds
     same-length
     returns-2
-    part-end-requires
-    sub-measure-in
-    part-measure-in-start
-    part-measure-in-end
+    part-at-requires
     measure-in-requires
     mul-into
     slice-write-into
     add-n
     add-at
+    add-at-2
     loop-less
     loop-again
     same-length-2
