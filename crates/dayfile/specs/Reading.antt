@@ -5,6 +5,8 @@ use mathlib.Core.Bool.{Bool, true, false, cond, not, _||_}
 use mathlib.Core.List.{List, [], _∷_, _++_}
 use lib.Dec.{eqb, ltb}
 use lib.ListN.{length, take, drop, getD}
+use Rattle.measure.specs.Volumes.{hundredths}
+use Rattle.measure.specs.declared.units.Hundredths.{Hundredths}
 use Rattle.measure.specs.Refusals.{firstOf}
 use Rattle.standard.specs.Gross.{gross, net}
 use Rattle.spaces.specs.declared.space.Space.{Space}
@@ -43,11 +45,11 @@ startOf file = length file - sheetSize (lastTrailer file .count)
 
 -- "a record with a nonzero zero field, a wrong kind, a number outside its range, a U, B, S or H with an enclosing id, or one that
 -- entry would refuse", after the spaces `before`, where L is the tonnage length
-abbrev pub faulty : ℕ → List Space → List ℕ → Bool
+abbrev pub faulty : Hundredths → List Space → List ℕ → Bool
 faulty L before numbers = not (fitting recordFields numbers) || not (eqb (recordNumber L before (spaceOf numbers)) 0)
 
 -- "the position, from 1, of the first such record"; 0 where there is none
-abbrev pub firstFaulty : ℕ → List Space → List (List ℕ) → ℕ
+abbrev pub firstFaulty : Hundredths → List Space → List (List ℕ) → ℕ
 firstFaulty L before [] = 0
 firstFaulty L before (numbers ∷ rest) =
     cond (faulty L before numbers) (length before + 1) (firstFaulty L (before ++ (spaceOf numbers ∷ [])) rest)
@@ -86,7 +88,7 @@ readNumber file =
 -- "A refused open or read hands back a sheet not open, mark 0, start 0." "The position is 0 for every number but 17."
 unfoldable pub refusedReading : ℕ → ℕ → Reading
 refusedReading number position =
-    record { number = number; position = position; sheet = blank false 0; justified = 0; start = 0 }
+    record { number = number; position = position; sheet = blank false (hundredths 0); justified = 0; start = 0 }
 
 -- "It answers the sheet, the justified mark and where the sheet starts"
 abbrev pub acceptedReading : Sheet → ℕ → ℕ → Reading

@@ -2,6 +2,7 @@
 use Prim.Native.Nat.{ℕ, zero, suc}
 use mathlib.Core.List.{List, [], _∷_, _++_}
 use lib.ListN.{drop, getD}
+use Rattle.measure.specs.Volumes.{hundredths}
 use Rattle.spaces.specs.declared.space.Space.{Space}
 use Rattle.dayfile.specs.Fields.{Field, field, zeroField, widths, encoded, decoded, size}
 
@@ -24,7 +25,7 @@ recordSize = size (widths recordFields)
 -- ---- written
 
 abbrev pub numbersOf : Space → List ℕ
-numbersOf x = x .id ∷ x .within ∷ x .kind ∷ x .standing ∷ 0 ∷ x .tonnage ∷ x .length ∷ []
+numbersOf x = x .id ∷ x .within ∷ x .kind ∷ x .standing ∷ 0 ∷ x .tonnage ∷ x .length .0 ∷ []
 
 abbrev pub recordBytes : Space → List ℕ
 recordBytes x = encoded (widths recordFields) (numbersOf x)
@@ -47,7 +48,7 @@ spaceOf numbers =
       kind = getD numbers 2 0;
       standing = getD numbers 3 0;
       tonnage = getD numbers 5 0;
-      length = getD numbers 6 0;
+      length = hundredths (getD numbers 6 0);
     }
 
 -- the numbers of the first n records of some bytes

@@ -5,6 +5,7 @@ use mathlib.Core.Bool.{Bool, _&&_}
 use mathlib.Core.List.{List, [], _∷_}
 use lib.Dec.{eqb}
 use lib.ListN.{getD}
+use Rattle.measure.specs.Volumes.{hundredths}
 use Rattle.dayfile.specs.Fields.{Field, field, zeroField, widths, encoded, decoded, size, fitting}
 use Rattle.dayfile.specs.Record.{recordSize}
 use Rattle.dayfile.specs.declared.trailer.Trailer.{Trailer}
@@ -33,7 +34,7 @@ sheetSize count = recordSize * count + trailerSize
 
 abbrev pub numbersOfTrailer : Trailer → List ℕ
 numbersOfTrailer t =
-    sheetSize (t .count) ∷ t .count ∷ t .justified ∷ 0 ∷ t .«tonnage_length» ∷ t .gross ∷ t .net ∷ []
+    sheetSize (t .count) ∷ t .count ∷ t .justified ∷ 0 ∷ t .«tonnage_length» .0 ∷ t .gross ∷ t .net ∷ []
 
 abbrev pub trailerBytes : Trailer → List ℕ
 trailerBytes t = encoded (widths trailerFields) (numbersOfTrailer t)
@@ -52,7 +53,7 @@ trailerOf numbers =
     record {
       count = getD numbers 1 0;
       justified = getD numbers 2 0;
-      «tonnage_length» = getD numbers 4 0;
+      «tonnage_length» = hundredths (getD numbers 4 0);
       gross = getD numbers 5 0;
       net = getD numbers 6 0;
     }

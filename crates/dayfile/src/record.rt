@@ -2,6 +2,7 @@
 use crate::fields::get_fields;
 use crate::fields::in_ranges;
 use crate::fields::put_fields;
+use measure::units::Hundredths;
 use spaces::space::Space;
 use spaces::space::empty;
 ghost use mathlib.Core.Path.{_≡_};
@@ -47,7 +48,7 @@ fn write_record(buf: &mut [u8], x: Space)
         x.standing as u64,
         0,
         x.tonnage as u64,
-        x.length as u64,
+        x.length.0 as u64,
     ];
     put_fields(buf, &widths, &numbers);
 }
@@ -94,7 +95,7 @@ fn space_of(numbers: [u64; 7]) -> Space
             kind: numbers[2] as u8,
             standing: numbers[3] as u8,
             tonnage: numbers[5] as u32,
-            length: numbers[6] as u32,
+            length: Hundredths(numbers[6] as u32),
         };
     }
     empty()

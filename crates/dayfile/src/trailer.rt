@@ -3,6 +3,7 @@ use crate::fields::get_fields;
 use crate::fields::in_ranges;
 use crate::fields::put_fields;
 use crate::record::RECORD_SIZE;
+use measure::units::Hundredths;
 ghost use mathlib.Core.Path.{_≡_};
 ghost use mathlib.Core.Bool.{true};
 ghost use Prim.Native.Nat.{_≤_};
@@ -31,7 +32,7 @@ const GREATEST: [u64; 7] = [
 pub(crate) struct Trailer {
     pub(crate) count: usize,
     pub(crate) justified: u8,
-    pub(crate) tonnage_length: u32,
+    pub(crate) tonnage_length: Hundredths,
     pub(crate) gross: u64,
     pub(crate) net: u64,
 }
@@ -55,7 +56,7 @@ pub(crate) fn write_trailer(buf: &mut [u8], t: Trailer)
         t.count as u64,
         t.justified as u64,
         0,
-        t.tonnage_length as u64,
+        t.tonnage_length.0 as u64,
         t.gross,
         t.net,
     ];
@@ -93,7 +94,7 @@ pub(crate) fn trailer_of(numbers: [u64; 7]) -> Trailer
     Trailer {
         count: numbers[1] as usize,
         justified: numbers[2] as u8,
-        tonnage_length: numbers[4] as u32,
+        tonnage_length: Hundredths(numbers[4] as u32),
         gross: numbers[5],
         net: numbers[6],
     }

@@ -2,6 +2,7 @@
 use mathlib.Core.Path.{_≡_, refl, ap}
 use mathlib.Core.List.{[], _∷_}
 use lib.ListN.{length}
+use Rattle.measure.specs.Volumes.{hundredths}
 use Rattle.measure.specs.Rounding.{nearest}
 use Rattle.measure.specs.Kinds.{kindOf}
 use Rattle.measure.specs.Ranges.{within}
@@ -22,12 +23,12 @@ use Rattle.dayfile_laws.proofs.WrittenRead.{length-bytes}
 -- "tonnage length 4800; space 1 the U above; 2 the S above; 3 a room in 1, standing 2 ..; 4 a room in 2, standing 3 ..; 5 a hatchway"
 abbrev pub wholeSheet : Sheet
 wholeSheet =
-    sheetWith 4800
-    (record { id = 1; within = 0; kind = 1; standing = 0; tonnage = 11521; length = 4800 }
-    ∷ record { id = 2; within = 0; kind = 3; standing = 0; tonnage = 1280; length = 1600 }
-    ∷ record { id = 3; within = 1; kind = 5; standing = 2; tonnage = 400; length = 1000 }
-    ∷ record { id = 4; within = 2; kind = 5; standing = 3; tonnage = 320; length = 800 }
-    ∷ record { id = 5; within = 0; kind = 4; standing = 0; tonnage = 100; length = 500 }
+    sheetWith (hundredths 4800)
+    (record { id = 1; within = 0; kind = 1; standing = 0; tonnage = 11521; length = hundredths 4800 }
+    ∷ record { id = 2; within = 0; kind = 3; standing = 0; tonnage = 1280; length = hundredths 1600 }
+    ∷ record { id = 3; within = 1; kind = 5; standing = 2; tonnage = 400; length = hundredths 1000 }
+    ∷ record { id = 4; within = 2; kind = 5; standing = 3; tonnage = 320; length = hundredths 800 }
+    ∷ record { id = 5; within = 0; kind = 4; standing = 0; tonnage = 100; length = hundredths 500 }
     ∷ [])
 
 resumes : ResumableSheet wholeSheet
@@ -36,7 +37,7 @@ resumes =
     record {
       places = refl;
       length-in-range = refl;
-      resumable = resumable-exactly 4800 (standing wholeSheet) .0 refl;
+      resumable = resumable-exactly (hundredths 4800) (standing wholeSheet) .0 refl;
     }
 
 -- "GROSS 124.39", "NET 121.19"

@@ -8,6 +8,7 @@ use native.Mathlib.Omega.{arith}
 use borrow.Author.Tests.{eqb-true, eqb-false, ltb-true, ltb-false}
 use lib.Dec.{eqb, ltb}
 use lib.ListN.{length, take, getD, length-append}
+use Rattle.measure.specs.declared.units.Hundredths.{Hundredths}
 use Rattle.spaces.specs.declared.space.Space.{Space}
 use Rattle.spaces.proofs.laws.Cases.{by-test, not-both}
 use Rattle.dayfile.specs.Record.{spaceOf, spacesOf}
@@ -17,18 +18,18 @@ use Rattle.dayfile_laws.specs.Faults.{FirstFault, NoFault, FaultExactly}
 -- ---- after any spaces, so that the records go one by one
 
 -- of some records after the spaces `before`, the one at a place from 0 is faulty after those ahead of it
-abbrev faultyAfter : ℕ → List Space → List (List ℕ) → ℕ → Bool
+abbrev faultyAfter : Hundredths → List Space → List (List ℕ) → ℕ → Bool
 faultyAfter L before records place = faulty L (before ++ spacesOf (take place records)) (getD records place [])
 
 -- a position that isn't 0 has a faulty record, and none ahead of it
-record FaultFound (L : ℕ) (before : List Space) (records : List (List ℕ)) (position : ℕ) : Type 0 where
+record FaultFound (L : Hundredths) (before : List Space) (records : List (List ℕ)) (position : ℕ) : Type 0 where
   place : ℕ
   position-is : position ≡ length before + (place + 1)
   in-order : place < length records
   faulty-there : faultyAfter L before records place ≡ true
   none-ahead : (i : ℕ) → i < place → faultyAfter L before records i ≡ false
 
-fault-found : (L : ℕ) (before : List Space) (records : List (List ℕ)) → (firstFaulty L before records ≡ 0 → ⊥)
+fault-found : (L : Hundredths) (before : List Space) (records : List (List ℕ)) → (firstFaulty L before records ≡ 0 → ⊥)
     → FaultFound L before records (firstFaulty L before records)
 fault-found L before [] some = absurd (some refl)
 fault-found L before (numbers ∷ rest) some =
@@ -61,14 +62,14 @@ fault-found L before (numbers ∷ rest) some =
         none (suc i) h = rw append-assoc at (found .none-ahead i (omega arith))
 
 -- and 0 has none at all: neither the first nor one after it
-pub none-first : (L : ℕ) (before : List Space) (numbers : List ℕ) (rest : List (List ℕ)) → firstFaulty L before (numbers ∷ rest) ≡ 0
+pub none-first : (L : Hundredths) (before : List Space) (numbers : List ℕ) (rest : List (List ℕ)) → firstFaulty L before (numbers ∷ rest) ≡ 0
     → (faulty L before numbers ≡ false) × (firstFaulty L (before ++ (spaceOf numbers ∷ [])) rest ≡ 0)
 none-first L before numbers rest z =
     by-test (faulty L before numbers)
     (λ t. let never : length before + 1 ≡ 0 = rw t at z in absurd (omega arith))
     (λ f. (f, rw f at z))
 
-none-found : (L : ℕ) (before : List Space) (records : List (List ℕ)) → firstFaulty L before records ≡ 0
+none-found : (L : Hundredths) (before : List Space) (records : List (List ℕ)) → firstFaulty L before records ≡ 0
     → (i : ℕ) → i < length records → faultyAfter L before records i ≡ false
 none-found L before [] z i h = absurd (omega arith)
 none-found L before (numbers ∷ rest) z zero h = rw append-nil (none-first L before numbers rest z .0)
@@ -77,7 +78,7 @@ none-found L before (numbers ∷ rest) z (suc i) h =
 
 -- ---- of all records
 
-module _ (L : ℕ) (records : List (List ℕ)) where
+module _ (L : Hundredths) (records : List (List ℕ)) where
   abbrev found : ℕ
   found = firstFaulty L [] records
 

@@ -7,6 +7,7 @@ use native.Mathlib.Nat.{le-trans}
 use native.Mathlib.Omega.{arith}
 use borrow.Author.Tests.{not-false, ltb-true, ltb-false, leb-true, eqb-true}
 use lib.Dec.{ltb, leb}
+use Rattle.measure.specs.declared.units.Hundredths.{Hundredths}
 use Rattle.measure.specs.Kinds.{kindOf}
 use Rattle.measure.specs.Ranges.{within, lengths}
 use Rattle.measure.specs.Handed.{mostTons}
@@ -61,15 +62,15 @@ standing-at-most kind taken e =
 -- what `misrecorded` leaves of one that an entry could have made
 record RightlyRecorded (x : Space) : Type 0 where
   tonnage-at-most : x .tonnage ≤ mostTons
-  length-at-least : 1 ≤ x .length
-  length-at-most : x .length ≤ 150000
+  length-at-least : 1 ≤ x .length .0
+  length-at-most : x .length .0 ≤ 150000
   no-enclosing-id : isRoom x ≡ false → x .within ≡ 0
 
 record-facts : (x : Space) → misrecorded x ≡ false → RightlyRecorded x
 record-facts x e =
-    let a = or-fails (ltb 100000000 (x .tonnage) || not (within (lengths (kindOf (x .kind))) (x .length))) _ e in
+    let a = or-fails (ltb 100000000 (x .tonnage) || not (within (lengths (kindOf (x .kind))) (x .length .0))) _ e in
     let b = or-fails (ltb 100000000 (x .tonnage)) _ (a .0) in
-    let l = in-range (lengths (kindOf (x .kind))) (x .length) (not-false _ (b .1)) in
+    let l = in-range (lengths (kindOf (x .kind))) (x .length .0) (not-false _ (b .1)) in
     let k = every-length (kindOf (x .kind)) in
     record {
       tonnage-at-most = ltb-false _ _ (b .0);
@@ -80,7 +81,7 @@ record-facts x e =
 
 -- ---- all numbers of records that are accepted
 
-module _ {L : ℕ} {xs : List Space} (a : Resumable L xs) where
+module _ {L : Hundredths} {xs : List Space} (a : Resumable L xs) where
   sound : Sound L xs
   sound = valid-is-sound (a .valid)
 

@@ -54,7 +54,7 @@ module _ (file : List ℕ) (a : ReadingAccepted file) where
   unfolding sheetIn
   trailer-same =
       let t = lastTrailer file in
-      trailer-is (sheetIn file) (t .justified) (t .count) (t .«tonnage_length») (t .gross) (t .net)
+      trailer-is (sheetIn file) (t .justified) (t .count) (t .gross) (t .net) (t .«tonnage_length»)
       (sym count-is)
       (sym (length-same (t .«tonnage_length») (spacesOf (lastRecords file))))
       (sym (a .gross-is))

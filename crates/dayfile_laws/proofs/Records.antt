@@ -9,6 +9,7 @@ use borrow.Author.Tests.{not-false}
 use lib.Dec.{lit<}
 use lib.ListN.{length, take, drop, getD, length-drop}
 use lib.Seq.{drop-at, take-add}
+use Rattle.measure.specs.declared.units.Hundredths.{Hundredths}
 use Rattle.measure.proofs.laws.Volumes.{at-most-drop}
 use Rattle.spaces.specs.declared.space.Space.{Space}
 use Rattle.spaces.proofs.laws.Cases.{or-fails}
@@ -80,7 +81,7 @@ record-written bytes all long fit =
     ap (encoded (widths recordFields)) same ∙ encoded-decoded (widths recordFields) bytes all long
 
 -- so the bytes of records none of which is faulty are those they were read from
-pub records-written : (L : ℕ) (before : List Space) (n : ℕ) (bytes : List ℕ) → Bytes bytes → recordSize * n ≤ length bytes
+pub records-written : (L : Hundredths) (before : List Space) (n : ℕ) (bytes : List ℕ) → Bytes bytes → recordSize * n ≤ length bytes
     → firstFaulty L before (recordsIn n bytes) ≡ 0 → records (spacesOf (recordsIn n bytes)) ≡ take (recordSize * n) bytes
 records-written L before zero bytes all long none = refl
 records-written L before (suc n) bytes all long none =

@@ -7,6 +7,7 @@ use native.Mathlib.Omega.{arith}
 use borrow.Author.Tests.{le-leb}
 use lib.ListN.{length, drop, replicate, length-append, length-drop, length-replicate}
 use lib.Seq.{take-append-seam}
+use Rattle.measure.specs.declared.units.Hundredths.{Hundredths}
 use Rattle.spaces.specs.Space.{emptySpace}
 use Rattle.spaces.specs.declared.space.Space.{Space}
 use Rattle.sheet.specs.Sheet.{standing, usable, blank}
@@ -14,7 +15,7 @@ use Rattle.sheet.specs.Calls.{counted, reported}
 use Rattle.sheet.specs.declared.sheet.Sheet.{Sheet}
 use Rattle.dayfile_laws.specs.Day.{sheetWith}
 
-module _ (L : ℕ) (xs : List Space) where
+module _ (L : Hundredths) (xs : List Space) where
   pub standing-same : standing (sheetWith L xs) ≡ xs
   standing-same = take-append-seam xs (drop (length xs) (blank true L .spaces))
 
@@ -39,7 +40,7 @@ module _ (L : ℕ) (xs : List Space) where
 
   -- made of its own spaces it is the same again
   pub made-again : sheetWith (sheetWith L xs .length) (standing (sheetWith L xs)) ≡ sheetWith L xs
-  made-again = ap (λ (l : ℕ). sheetWith l (standing (sheetWith L xs))) length-same ∙ ap (sheetWith L) standing-same
+  made-again = ap (λ (l : Hundredths). sheetWith l (standing (sheetWith L xs))) length-same ∙ ap (sheetWith L) standing-same
 
 -- a report asks no more of an open sheet than its standing spaces and its tonnage length
 pub same-report : (a b : Sheet) (justified : ℕ) → usable a ≡ true → usable b ≡ true → standing a ≡ standing b → a .length ≡ b .length

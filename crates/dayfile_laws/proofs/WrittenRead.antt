@@ -8,6 +8,7 @@ use native.Mathlib.Omega.{arith}
 use borrow.Author.Tests.{eq-eqb}
 use lib.ListN.{length, take, drop}
 use lib.Seq.{length-take-le}
+use Rattle.measure.specs.declared.units.Hundredths.{Hundredths}
 use Rattle.standard.specs.Gross.{gross, net}
 use Rattle.spaces.specs.declared.space.Space.{Space}
 use Rattle.spaces_laws.proofs.Tests.{and-holds-of}
@@ -43,7 +44,7 @@ each-read-as [] fit = refl
 each-read-as (x ∷ xs) fit = rw (fit x (List·Memᴰ·head refl), each-read-as xs (λ y m. fit y (List·Memᴰ·tail m)))
 
 -- so none is faulty that `resume` accepts
-none-faulty : (L : ℕ) (xs : List Space) → ((x : Space) → x ∈ xs → Fits x) → firstRefused L [] xs .number ≡ 0
+none-faulty : (L : Hundredths) (xs : List Space) → ((x : Space) → x ∈ xs → Fits x) → firstRefused L [] xs .number ≡ 0
     → firstFaulty L [] (map numbersOf xs) ≡ 0
 none-faulty L xs fit none = judged L [] (map numbersOf xs) .none-faulty (rw (each-read-as xs fit) none)
 
@@ -73,7 +74,7 @@ module _ (s : Sheet) (justified : ℕ) (w : Writable s justified) where
 
   trailer-fits : fitting trailerFields (numbersOfTrailer (trailerFor s justified)) ≡ true
   trailer-fits =
-      let l = in-range _ (s .length) (w .sheet .length-in-range) in
+      let l = in-range _ (s .length .0) (w .sheet .length-in-range) in
       let facts : InFields trailerFields (numbersOfTrailer (trailerFor s justified)) =
       omega (arith, few, report-given .marked, l .0, l .1, gross-at-most taken, net-at-most taken) in
       fitting-of trailerFields (numbersOfTrailer (trailerFor s justified)) facts

@@ -6,25 +6,26 @@ use mathlib.Core.Bool.{Bool, true, false}
 use mathlib.Core.List.{List, []}
 use mathlib.Core.Logic.{_↔_}
 use lib.ListN.{length, take, getD}
+use Rattle.measure.specs.declared.units.Hundredths.{Hundredths}
 use Rattle.dayfile.specs.Record.{spacesOf}
 use Rattle.dayfile.specs.Reading.{faulty}
 
 -- the record at a position, from 1, is faulty after the spaces of those before it, where L is the tonnage length
-abbrev pub faultyAt : ℕ → List (List ℕ) → ℕ → Bool
+abbrev pub faultyAt : Hundredths → List (List ℕ) → ℕ → Bool
 faultyAt L records position = faulty L (spacesOf (take (position - 1) records)) (getD records (position - 1) [])
 
 -- the first faulty record stands at this position
-pub record FirstFault (L : ℕ) (records : List (List ℕ)) (position : ℕ) : Type 0 where
+pub record FirstFault (L : Hundredths) (records : List (List ℕ)) (position : ℕ) : Type 0 where
   pub at-least-1 : 1 ≤ position
   pub at-most-all : position ≤ length records
   pub faulty-there : faultyAt L records position ≡ true
   pub none-before : (i : ℕ) → 1 ≤ i → i < position → faultyAt L records i ≡ false
 
 -- no record is faulty after those before it
-abbrev pub NoFault : ℕ → List (List ℕ) → Type 0
+abbrev pub NoFault : Hundredths → List (List ℕ) → Type 0
 NoFault L records = (i : ℕ) → 1 ≤ i → i ≤ length records → faultyAt L records i ≡ false
 
 -- a position is that of the first faulty record, and 0 where there is none
-pub record FaultExactly (L : ℕ) (records : List (List ℕ)) (position : ℕ) : Type 0 where
+pub record FaultExactly (L : Hundredths) (records : List (List ℕ)) (position : ℕ) : Type 0 where
   pub first-exactly : (p : ℕ) → 0 < p → (position ≡ p) ↔ FirstFault L records p
   pub none-exactly : (position ≡ 0) ↔ NoFault L records

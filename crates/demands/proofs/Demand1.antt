@@ -11,10 +11,10 @@ use native.Mathlib.Omega.{arith}
 use borrow.Author.Tests.{not-true, ne-eqb, eqb-true, eqb-false, le-ltb}
 use lib.Dec.{eqb, ltb, lit<}
 use lib.ListN.{length, drop}
+use Rattle.measure.specs.declared.units.Hundredths.{Hundredths}
 use Rattle.measure.specs.Kinds.{kindOf}
 use Rattle.measure.specs.Ranges.{within, tonnageLengths}
 use Rattle.measure.specs.Refusals.{firstOf}
-use Rattle.measure.specs.Volumes.{hundredths}
 use Rattle.measure.specs.Offsets.{inRange, counted as rightlyCounted, measured}
 use Rattle.standard.specs.Rules.{entryTests}
 use Rattle.standard.specs.Gross.{gross, net}
@@ -46,10 +46,10 @@ use Rattle.demands.proofs.Tests.{first-given, lowest-given, spliced, ei
 
 -- ---- "is given exactly when the paper says": for any sheet and any numbers
 
-pub open-refused : (L : ℕ) → LowestGiven (openTests L) (openedWith L .number)
+pub open-refused : (L : Hundredths) → LowestGiven (openTests L) (openedWith L .number)
 unfolding openedWith
 open-refused L =
-    let same : openedWith L .number ≡ firstOf (openTests L) = by-test (within tonnageLengths L) (λ t. rw t) (λ f. rw f) in
+    let same : openedWith L .number ≡ firstOf (openTests L) = by-test (within tonnageLengths L.0) (λ t. rw t) (λ f. rw f) in
     rw same (lowest-given (openTests L) (omega arith))
 
 pub enter-refused : (s : Sheet) (e : Entry) (heights breadths : List ℕ)
@@ -57,8 +57,8 @@ pub enter-refused : (s : Sheet) (e : Entry) (heights breadths : List ℕ)
 unfolding entered measured
 enter-refused s e heights breadths =
     let k = kindOf (e .kind) in
-    let t = hundredths (s .length) in
-    let l = hundredths (e .length) in
+    let t = s .length in
+    let l = e .length in
     let out = not (inRange k t l heights breadths) in
     let wrong = not (rightlyCounted k t l heights breadths) in
     let rest = entryTests (s .length) (standing s) (spaceOf (s .length) e heights breadths) in
@@ -96,7 +96,7 @@ write-refused s justified size at =
     rw same (lowest-given (writeTests s justified size at) (omega arith))
 
 -- `resume`, by which reading makes its sheet, judges each record after those before it
-pub record-refused : (L : ℕ) (before : List Space) (x : Space) → LowestGiven (recordTests L before x) (recordNumber L before x)
+pub record-refused : (L : Hundredths) (before : List Space) (x : Space) → LowestGiven (recordTests L before x) (recordNumber L before x)
 unfolding recordNumber
 record-refused L before x = lowest-given (recordTests L before x) (omega arith)
 
@@ -199,15 +199,15 @@ unfolding written writtenInto
 refused-write-gives s justified at buffer refused = let e = ne-eqb _ 0 refused in (rw e, rw e)
 
 -- "A refused open .. hands back a sheet not open"
-pub refused-open-gives : (L : ℕ) → (openedWith L .number ≡ 0 → ⊥) → usable (openedWith L .sheet) ≡ false
+pub refused-open-gives : (L : Hundredths) → (openedWith L .number ≡ 0 → ⊥) → usable (openedWith L .sheet) ≡ false
 unfolding openedWith usable blank
-refused-open-gives L refused = by-test (within tonnageLengths L) (λ t. absurd (refused (rw t))) (λ f. rw f)
+refused-open-gives L refused = by-test (within tonnageLengths L.0) (λ t. absurd (refused (rw t))) (λ f. rw f)
 
 -- and so does a refused `resume`
-pub refused-resume-gives : (L : ℕ) (records : List Space) → (resumed L records .number ≡ 0 → ⊥) → usable (resumed L records .sheet) ≡ false
+pub refused-resume-gives : (L : Hundredths) (records : List Space) → (resumed L records .number ≡ 0 → ⊥) → usable (resumed L records .sheet) ≡ false
 unfolding resumed usable blank
 refused-resume-gives L records refused =
-    by-test (within tonnageLengths L)
+    by-test (within tonnageLengths L.0)
     (λ t. by-test (eqb (firstRefused L [] records .number) 0) (λ u. absurd (refused (rw (t, u)))) (λ f. rw (t, f)))
     (λ f. rw f)
 

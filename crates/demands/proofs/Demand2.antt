@@ -133,7 +133,7 @@ unfolding entered entryOf fitted noted
 entered-last {s} r e heights breadths z =
     let x = spaceOf (s .length) e heights breadths in
     let (offsets, taken) = enter-accepted s e heights breadths z in
-    let well = entry-well-recorded (record { 0 = s .length }) e heights breadths offsets in
+    let well = entry-well-recorded (s .length) e heights breadths offsets in
     let fits = valid-is-sound (resumable-entered x (reached-resumable r .resumable) well taken .valid) .at-most-200 in
     record {
       offsets-accepted = offsets;

@@ -10,6 +10,7 @@ use mathlib.Core.Bool.{false}
 use mathlib.Core.List.{List}
 use borrow.Author.Tests.{eqb-true, eqb-false}
 use lib.Dec.{eqb}
+use Rattle.measure.specs.declared.units.Hundredths.{Hundredths}
 use Rattle.spaces.specs.Space.{isPlain}
 use Rattle.spaces.specs.Row.{sumOf}
 use Rattle.standard.specs.Gross.{exempt}
@@ -27,7 +28,7 @@ use Rattle.demands.specs.Reached.{Begun, DayCall, afterDay, withoutWrite
 use Rattle.demands.proofs.Reached.{begun-of-records, writes-change-nothing}
 
 -- for every list of calls, reports, counts and writes among them. The log of changes has no bound
-pub after-any-run : {L : ℕ} {start : List Space} {first : Sheet} → Begun L start first → (calls : List DayCall)
+pub after-any-run : {L : Hundredths} {start : List Space} {first : Sheet} → Begun L start first → (calls : List DayCall)
     → Holds L start (afterDay calls first) (logOf L (withoutWrites calls) first) (countsOf (withoutWrites calls) first)
 after-any-run {first = first} begun calls =
     rw (writes-change-nothing calls first) (after-any-run-from-records (begun-of-records begun) (withoutWrites calls))
@@ -35,7 +36,7 @@ after-any-run {first = first} begun calls =
 -- ---- "After any run .."
 
 -- "the spaces standing are exactly those that the accepted changes not undone would leave if made in order"
-pub standing-is : {L : ℕ} {start : List Space} {first : Sheet} → Begun L start first → (calls : List DayCall)
+pub standing-is : {L : Hundredths} {start : List Space} {first : Sheet} → Begun L start first → (calls : List DayCall)
     → standing (afterDay calls first) ≡ replay (logOf L (withoutWrites calls) first .notUndone) start
 standing-is begun calls = after-any-run begun calls .history .standing-is
 
@@ -43,11 +44,11 @@ only-at-nil : {count number : ℕ} → RefusedAtNil count number → (number ≡
 only-at-nil {count} r refused = by-test (eqb count 0) (eqb-true _ _) (λ f. absurd (refused (r .else-accepted (eqb-false _ _ f))))
 
 -- "and undo or redo is refused only when the paper's count of open changes is nil": with any number
-pub undo-refused-only-at-nil : {L : ℕ} {start : List Space} {first : Sheet} → Begun L start first → (calls : List DayCall)
+pub undo-refused-only-at-nil : {L : Hundredths} {start : List Space} {first : Sheet} → Begun L start first → (calls : List DayCall)
     → (undone (afterDay calls first) .number ≡ 0 → ⊥) → countsOf (withoutWrites calls) first .undoable ≡ 0
 undo-refused-only-at-nil begun calls = only-at-nil (after-any-run begun calls .history .undo-refused)
 
-pub redo-refused-only-at-nil : {L : ℕ} {start : List Space} {first : Sheet} → Begun L start first → (calls : List DayCall)
+pub redo-refused-only-at-nil : {L : Hundredths} {start : List Space} {first : Sheet} → Begun L start first → (calls : List DayCall)
     → (redone (afterDay calls first) .number ≡ 0 → ⊥) → countsOf (withoutWrites calls) first .redoable ≡ 0
 redo-refused-only-at-nil begun calls = only-at-nil (after-any-run begun calls .history .redo-refused)
 

@@ -1,8 +1,8 @@
 -- What a sheet is that calls can reach: its spaces are all accepted as records, in order, on the 200 places of an open sheet. Stands on
 -- sheet_laws, AnyRun.
-use Prim.Native.Nat.{ℕ}
 use mathlib.Core.Path.{_≡_, refl}
 use mathlib.Core.List.{List, [], _∷_}
+use Rattle.measure.specs.declared.units.Hundredths.{Hundredths}
 use Rattle.spaces.specs.declared.space.Space.{Space}
 use Rattle.sheet.specs.declared.sheet.Sheet.{Sheet}
 use Rattle.sheet_laws.specs.Run.{answer, after}
@@ -15,7 +15,7 @@ use Rattle.dayfile_laws.proofs.ReadWritten.{read-of-records}
 use Rattle.demands.specs.Reached.{Begun, opened, read, ofRecords, DayCall, call, write, afterDay, withoutWrites, Reached, reached}
 
 -- one that has begun has spaces that are all accepted as records, in order, and no open changes
-pub begun-of-records : {L : ℕ} {start : List Space} {first : Sheet} → Begun L start first → OfRecords L start first
+pub begun-of-records : {L : Hundredths} {start : List Space} {first : Sheet} → Begun L start first → OfRecords L start first
 begun-of-records (opened L z) = opened-of-records L z
 begun-of-records (read file z) = read-of-records file z
 begun-of-records (ofRecords L records z) = resumed-of-records L records z

@@ -5,9 +5,9 @@ use mathlib.Core.Bool.{Bool, false, not, _&&_, _||_}
 use mathlib.Core.List.{List, [], _∷_, _++_}
 use mathlib.Core.Logic.{_↔_}
 use lib.Dec.{eqb, ltb}
+use Rattle.measure.specs.declared.units.Hundredths.{Hundredths}
 use Rattle.measure.specs.Kinds.{kindOf}
 use Rattle.measure.specs.Ranges.{within, tonnageLengths}
-use Rattle.measure.specs.Volumes.{hundredths}
 use Rattle.measure.specs.Offsets.{inRange, counted as rightlyCounted}
 use Rattle.spaces.specs.Row.{sumOf}
 use Rattle.standard.specs.Rules.{entryTests, withdrawTests, markTests}
@@ -27,15 +27,15 @@ use Rattle.dayfile_laws.specs.Faults.{FirstFault, NoFault}
 -- (5, 11) and markTests (5, 6, 8) are defined in spaces/specs/Rules, those of 16 and 17 in dayfile/specs/Reading.
 
 -- 2: the tonnage length is outside its range
-abbrev pub openTests : ℕ → List (Bool × ℕ)
-openTests L = (not (within tonnageLengths L), 2) ∷ []
+abbrev pub openTests : Hundredths → List (Bool × ℕ)
+openTests L = (not (within tonnageLengths L.0), 2) ∷ []
 
 -- 1; 2: its standing, its kind or a measure is outside its range; 3: its offsets are not the number the rules ask; 4 to 10
 abbrev pub enterTests : Sheet → Entry → List ℕ → List ℕ → List (Bool × ℕ)
 enterTests s e heights breadths =
     let k = kindOf (e .kind) in
-    let t = hundredths (s .length) in
-    let l = hundredths (e .length) in
+    let t = s .length in
+    let l = e .length in
     (not (usable s), 1)
     ∷ (ltb 3 (e .standing) || not (inRange k t l heights breadths), 2)
     ∷ (not (rightlyCounted k t l heights breadths), 3)
@@ -58,7 +58,7 @@ redoTests s = (not (usable s), 1) ∷ (eqb (s .redoable) 0, 12) ∷ []
 
 -- 13: "U lengths don't add up to the tonnage length"; 14: "ballast over 30%, not justified"
 abbrev pub lengthsShort : Sheet → Bool
-lengthsShort s = not (eqb (sumOf Lengths (standing s)) (s .length))
+lengthsShort s = not (eqb (sumOf Lengths (standing s)) (s .length .0))
 
 abbrev pub ballastUnjustified : Sheet → ℕ → Bool
 ballastUnjustified s justified = unjustified (standing s) && eqb justified 0
@@ -91,7 +91,7 @@ readTests file =
     ∷ []
 
 -- "It checks records in file order as entries with the recorded tonnage and length": 2 of a record's own numbers, then 4 to 10
-abbrev pub recordTests : ℕ → List Space → Space → List (Bool × ℕ)
+abbrev pub recordTests : Hundredths → List Space → Space → List (Bool × ℕ)
 recordTests L before x = (misrecorded x, 2) ∷ entryTests L before x
 
 -- ---- reading

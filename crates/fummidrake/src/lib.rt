@@ -28,9 +28,9 @@ ghost use Rattle.listing.specs.Listing.{listed};
 
 #[no_mangle]
 pub extern "C" fn fummidrake_open(length: u32) -> Changed
-    ensures { λ r. ⌜ r ≡ openedWith length ⌝ }
+    ensures { λ r. ⌜ r ≡ openedWith (hundredths length) ⌝ }
 {
-    Sheet::open(length)
+    Sheet::open(Hundredths(length))
 }
 
 #[no_mangle]
@@ -96,9 +96,9 @@ pub extern "C" fn fummidrake_is_open(sheet: Sheet) -> bool
 
 #[no_mangle]
 pub extern "C" fn fummidrake_tonnage_length(sheet: Sheet) -> u32
-    ensures { λ r. ⌜ r ≡ lengthOf sheet ⌝ }
+    ensures { λ r. ⌜ r ≡ lengthOf sheet .0 ⌝ }
 {
-    sheet.tonnage_length()
+    sheet.tonnage_length().0
 }
 
 #[no_mangle]

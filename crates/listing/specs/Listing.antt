@@ -16,7 +16,7 @@ use Rattle.listing.specs.declared.listing.Listing.{Listing}
 -- "`LENGTH` is the tonnage length in feet; then one line a space in order of entry, ...; then gross and net in tons."
 unfoldable pub sheetText : Sheet → List ℕ
 sheetText s =
-    figureLine (ascii "LENGTH") (s .length)
+    figureLine (ascii "LENGTH") (s .length .0)
     ++ spaceLines (standing s)
     ++ figureLine (ascii "GROSS") (gross (standing s))
     ++ figureLine (ascii "NET") (net (standing s))

@@ -57,7 +57,7 @@ fn put_sheet(buf: &mut [u8], sheet: Sheet, justified: u8) -> usize
     ensures { λ r. ⌜ PutText (now (buf .entry)) (sheetText sheet) (now (buf .exit)) r ⌝ }
 {
     let report = sheet.report(justified);
-    let spaces = put_figure(buf, 0, b"LENGTH", sheet.tonnage_length() as u64);
+    let spaces = put_figure(buf, 0, b"LENGTH", sheet.tonnage_length().0 as u64);
     let gross = put_spaces(buf, spaces, sheet.places(), sheet.standing_count());
     let net = put_figure(buf, gross, b"GROSS", report.gross);
     put_figure(buf, net, b"NET", report.net)

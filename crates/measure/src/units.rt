@@ -4,6 +4,7 @@ ghost use mathlib.Core.Path.{_≡_};
 ghost use Prim.Native.Nat.{_<_, _^_};
 
 // A length, breadth, depth or height, or a third interval of a depth, in hundredths of a foot (69.109(h)(4)(ii)).
+#[repr(C)]
 pub struct Hundredths(pub u32);
 
 // A third interval of a length, in thousandths of a foot (69.109(g)(2)): ten times a length, so twice as wide.

@@ -8,6 +8,7 @@ use Rattle.measure.specs.Ranges.{within, tonnageLengths}
 use Rattle.measure.specs.Refusals.{firstOf}
 use Rattle.measure.specs.Volumes.{hundredths}
 use Rattle.measure.specs.Offsets.{measured}
+use Rattle.measure.specs.declared.units.Hundredths.{Hundredths}
 use Rattle.measure.specs.declared.offsets.Measured.{Measured}
 use Rattle.spaces.specs.Row.{find, placeOf, spaceWith, sumOf}
 use Rattle.standard.specs.Rules.{entryTests, withdrawTests, markTests}
@@ -25,11 +26,11 @@ use Rattle.sheet.specs.declared.calls.Counted.{Counted}
 use Rattle.sheet.specs.declared.calls.Reported.{Reported}
 
 -- "A sheet is opened with the tonnage length." "A refused open .. hands back a sheet not open."
-unfoldable pub openedWith : ℕ → Changed
+unfoldable pub openedWith : Hundredths → Changed
 openedWith length =
-    cond (within tonnageLengths length)
+    cond (within tonnageLengths length.0)
     (record { number = 0; sheet = blank true length })
-    (record { number = 2; sheet = blank false 0 })
+    (record { number = 2; sheet = blank false (hundredths 0) })
 
 -- "A refused change, undo or redo hands back the sheet as it came."
 abbrev pub answered : ℕ → Sheet → Sheet → Changed
@@ -54,7 +55,7 @@ entryOf e tonnage =
     }
 
 abbrev pub measuredFor : Sheet → Entry → List ℕ → List ℕ → Measured
-measuredFor s e heights breadths = measured (e .kind) (hundredths (s .length)) (hundredths (e .length)) heights breadths
+measuredFor s e heights breadths = measured (e .kind) (s .length) (e .length) heights breadths
 
 abbrev pub enterNumber : Sheet → Entry → List ℕ → List ℕ → ℕ
 enterNumber s e heights breadths =
@@ -128,7 +129,7 @@ reportNumber s justified =
     ((not (usable s), 1)
     ∷ (ltb 1 justified, 2)
     -- 13: U lengths don't add up to the tonnage length
-    ∷ (not (eqb (sumOf Lengths (standing s)) (s .length)), 13)
+    ∷ (not (eqb (sumOf Lengths (standing s)) (s .length .0)), 13)
     -- 14: ballast over 30%, not justified
     ∷ (unjustified (standing s) && eqb justified 0, 14)
     ∷ [])

@@ -5,6 +5,8 @@ use mathlib.Core.Bool.{true, false, cond}
 use mathlib.Core.List.{List, []}
 use lib.Dec.{eqb}
 use Rattle.measure.specs.Ranges.{within, tonnageLengths}
+use Rattle.measure.specs.Volumes.{hundredths}
+use Rattle.measure.specs.declared.units.Hundredths.{Hundredths}
 use Rattle.standard.specs.Records.{firstRefused}
 use Rattle.spaces.specs.declared.space.Space.{Space}
 use Rattle.sheet.specs.Sheet.{blank}
@@ -12,15 +14,15 @@ use Rattle.sheet.specs.Changes.{withStanding}
 use Rattle.sheet.specs.declared.resume.Resumed.{Resumed}
 
 -- the sheet of these records
-abbrev pub sheetOf : ℕ → List Space → Resumed
+abbrev pub sheetOf : Hundredths → List Space → Resumed
 sheetOf L records = record { number = 0; position = 0; sheet = withStanding records (blank true L) }
 
 abbrev pub refused : ℕ → ℕ → Resumed
-refused number position = record { number = number; position = position; sheet = blank false 0 }
+refused number position = record { number = number; position = position; sheet = blank false (hundredths 0) }
 
-unfoldable pub resumed : ℕ → List Space → Resumed
+unfoldable pub resumed : Hundredths → List Space → Resumed
 resumed L records =
     let r = firstRefused L [] records in
-    cond (within tonnageLengths L)
+    cond (within tonnageLengths L.0)
     (cond (eqb (r .number) 0) (sheetOf L records) (refused (r .number) (r .position)))
     (refused 2 0)

@@ -5,6 +5,8 @@ use mathlib.Core.Bool.{Bool, cond, _&&_}
 use mathlib.Core.List.{List}
 use lib.Dec.{eqb, leb, ltb}
 use lib.ListN.{length, take, getD, replicate}
+use Rattle.measure.specs.Volumes.{hundredths}
+use Rattle.measure.specs.declared.units.Hundredths.{Hundredths}
 use Rattle.spaces.specs.Space.{emptySpace}
 use Rattle.spaces.specs.declared.space.Space.{Space}
 use Rattle.sheet.specs.declared.changes.Change.{Change}
@@ -46,7 +48,7 @@ abbrev pub noChange : OpenChange
 noChange = kept (Entered emptySpace)
 
 -- a sheet with nothing on it
-unfoldable pub blank : Bool → ℕ → Sheet
+unfoldable pub blank : Bool → Hundredths → Sheet
 blank opened length =
     record {
       opened = cond opened 1 0;
@@ -59,8 +61,8 @@ blank opened length =
     }
 
 -- what a sheet hands out: its tonnage length, how many spaces stand, the one at a place, and all the places
-unfoldable pub lengthOf : Sheet → ℕ
-lengthOf s = cond (usable s) (s .length) 0
+unfoldable pub lengthOf : Sheet → Hundredths
+lengthOf s = cond (usable s) (s .length) (hundredths 0)
 
 unfoldable pub standingCount : Sheet → ℕ
 standingCount s = cond (usable s) (s .count) 0

@@ -24,7 +24,7 @@ pub struct Entry {
     pub within: u16,
     pub kind: u8,
     pub standing: u8,
-    pub length: u32,
+    pub length: Hundredths,
 }
 
 #[repr(C)]
@@ -54,6 +54,7 @@ impl Entry {
     fn space(self, tonnage: u32) -> Space
         ensures { λ r. ⌜ r ≡ entryOf self tonnage ⌝ }
     {
+        let length = self.length;
         let mut within = 0;
         if self.kind == ROOM {
             within = self.within;
@@ -64,20 +65,20 @@ impl Entry {
             kind: self.kind,
             standing: self.standing,
             tonnage,
-            length: self.length,
+            length,
         }
     }
 }
 
 impl Sheet {
     // A new sheet with a tonnage length; one not open where it is outside its range.
-    pub fn open(length: u32) -> Changed
+    pub fn open(length: Hundredths) -> Changed
         ensures { λ r. ⌜ r ≡ openedWith length ⌝ }
     {
-        if !tonnage_length_fits(Hundredths(length)) {
+        if !tonnage_length_fits(length) {
             return Changed {
                 number: 2,
-                sheet: Sheet::blank(false, 0),
+                sheet: Sheet::blank(false, Hundredths(0)),
             };
         }
         Changed {
@@ -102,8 +103,8 @@ impl Sheet {
                 sheet: self,
             };
         }
-        let whole = Hundredths(self.length);
-        let own = Hundredths(entry.length);
+        let whole = self.length;
+        let own = entry.length;
         let measured = measure_offsets(entry.kind, whole, own, heights, breadths);
         if measured.number != 0 {
             return Changed {
@@ -279,7 +280,7 @@ impl Sheet {
         }
         let spaces = self.spaces;
         let r = reckon(spaces, self.count);
-        if r.lengths != self.length as u64 {
+        if r.lengths != self.length.0 as u64 {
             return self.unreported(13);
         }
         if needs_mark(r.unjustified, justified) {

@@ -36,14 +36,14 @@ impl Sheet {
     }
 
     // The first `count` of the records, 200 at the most.
-    pub fn resume(length: u32, records: [Space; 200], count: usize) -> Resumed
+    pub fn resume(length: Hundredths, records: [Space; 200], count: usize) -> Resumed
         ensures { λ r. ⌜ r ≡ resumed length (take count records) ⌝ }
     {
-        if !tonnage_length_fits(Hundredths(length)) {
+        if !tonnage_length_fits(length) {
             return Resumed {
                 number: 2,
                 position: 0,
-                sheet: Sheet::blank(false, 0),
+                sheet: Sheet::blank(false, Hundredths(0)),
             };
         }
         let n = used(count);
@@ -52,7 +52,7 @@ impl Sheet {
             return Resumed {
                 number: refused.number,
                 position: refused.position,
-                sheet: Sheet::blank(false, 0),
+                sheet: Sheet::blank(false, Hundredths(0)),
             };
         }
         let sheet = Sheet::blank(true, length).with_records(records, n);

@@ -3,10 +3,12 @@ use crate::changes::Change;
 use crate::changes::OpenChange;
 use crate::row::open_places_of;
 use crate::row::places_of;
+use measure::units::Hundredths;
 use spaces::space::Space;
 use spaces::space::empty;
 ghost use mathlib.Core.Path.{_≡_};
 ghost use mathlib.Core.Bool.{false};
+ghost use Rattle.measure.specs.Volumes.{hundredths};
 ghost use Rattle.sheet.specs.Sheet.{blank as blankOf, usable as usableOf, standingCount, spaceAt, placesOf, lengthOf};
 ghost use Rattle.sheet.specs.Handed.{Judged};
 
@@ -14,8 +16,8 @@ ghost use Rattle.sheet.specs.Handed.{Judged};
 pub struct Sheet {
     // 1 where the sheet is open.
     pub(crate) opened: u8,
-    // The tonnage length, in hundredths of a foot.
-    pub(crate) length: u32,
+    // The tonnage length.
+    pub(crate) length: Hundredths,
     // 200 places: the first `count` stand, in order of entry.
     pub(crate) spaces: [Space; 200],
     pub(crate) count: usize,
@@ -27,7 +29,7 @@ pub struct Sheet {
 
 impl Sheet {
     // A sheet with nothing on it.
-    pub(crate) fn blank(opened: bool, length: u32) -> Sheet
+    pub(crate) fn blank(opened: bool, length: Hundredths) -> Sheet
         ensures { λ r. ⌜ r ≡ blankOf opened length ⌝ }
     {
         let none = empty();
@@ -67,19 +69,19 @@ impl Sheet {
 
     // A sheet not open.
     pub fn closed() -> Sheet
-        ensures { λ r. ⌜ r ≡ blankOf false 0 ⌝ }
+        ensures { λ r. ⌜ r ≡ blankOf false (hundredths 0) ⌝ }
     {
-        Sheet::blank(false, 0)
+        Sheet::blank(false, Hundredths(0))
     }
 
     // The tonnage length; 0 where the sheet isn't open.
-    pub fn tonnage_length(self) -> u32
+    pub fn tonnage_length(self) -> Hundredths
         ensures { λ r. ⌜ r ≡ lengthOf self ⌝ }
     {
         if self.usable() {
             return self.length;
         }
-        0
+        Hundredths(0)
     }
 
     // How many spaces stand; none where the sheet isn't open.

@@ -7,7 +7,6 @@ use mathlib.Core.List.{List, [], _∷_, _++_}
 use native.Mathlib.Omega.{arith}
 use borrow.Author.Tests.{eqb-true, eqb-false}
 use lib.Dec.{eqb, ltb}
-use Rattle.measure.specs.Volumes.{hundredths}
 use Rattle.standard.specs.Rules.{entryTests, entryNumber, withdrawTests, withdrawNumber, markTests, markNumber}
 use Rattle.spaces.proofs.laws.Cases.{by-test}
 use Rattle.spaces_laws.proofs.Valid.{valid-is-sound}
@@ -59,7 +58,7 @@ paper-rules =
           let (measures, entry) = enter-accepted s e hs bs z in
           record {
             then = standing s ++ (x ∷ []);
-            allowed = resumable-entered x r (entry-well-recorded (hundredths (s .length)) e hs bs measures) entry;
+            allowed = resumable-entered x r (entry-well-recorded (s .length) e hs bs measures) entry;
             leads = entry-leads x (standing s);
           };
       withdrawal-fits = λ s id r z.

@@ -6,6 +6,7 @@ use mathlib.Core.Path.{_≡_, refl, sym, ap, _∙_}
 use mathlib.Core.Bool.{true}
 use mathlib.Core.List.{List}
 use native.Mathlib.Omega.{arith}
+use Rattle.measure.specs.declared.units.Hundredths.{Hundredths}
 use Rattle.spaces.specs.declared.space.Space.{Space}
 use Rattle.spaces.specs.declared.sums.Amount.the-variants.{Deducted}
 use Rattle.spaces.specs.Row.{sumOf}
@@ -25,7 +26,7 @@ use Rattle.sheet_laws.proofs.Runs.{history-after-any-run}
 use Rattle.sheet_laws.proofs.Accepted.{paper-rules}
 
 -- a given report is gross and net of the spaces standing, and these are exact on a valid sheet
-given-within : {L : ℕ} (s : Sheet) → Valid L (standing s) → (justified : ℕ) → reported s justified .number ≡ 0
+given-within : {L : Hundredths} (s : Sheet) → Valid L (standing s) → (justified : ℕ) → reported s justified .number ≡ 0
     → Within (standing s) (reported s justified)
 given-within s v justified z =
     let g = given s justified (reported s justified) refl z in
@@ -36,7 +37,7 @@ given-within s v justified z =
     }
 
 -- from the sheet of some recorded spaces, each accepted in order
-pub after-any-run-from-records : {L : ℕ} {records : List Space} {first : Sheet} → OfRecords L records first → AfterAnyRun L records first
+pub after-any-run-from-records : {L : Hundredths} {records : List Space} {first : Sheet} → OfRecords L records first → AfterAnyRun L records first
 after-any-run-from-records {L} {records} o calls =
     let (history, now) = history-after-any-run Resumable paper-rules L records (o .resumable) calls in
     let v = now .valid in

@@ -6,6 +6,7 @@ use mathlib.Core.Option.{some}
 use native.Mathlib.Omega.{arith}
 use lib.ListN.{length, take, drop, getD, set, length-append}
 use lib.Seq.{length-take-le, take-at, drop-at, split-at, set-set, set-getD, getD-set-same}
+use Rattle.measure.specs.declared.units.Hundredths.{Hundredths}
 use Rattle.spaces.specs.declared.space.Space.{Space}
 use Rattle.spaces.specs.Space.{emptySpace}
 use Rattle.spaces.specs.Row.{find, placeOf, spaceWith}
@@ -28,7 +29,7 @@ entry-leads x xs =
     }
 
 -- on a valid sheet the place of an id that stands is its only one
-module _ {L : ℕ} {xs : List Space} (v : Valid L xs) (id : ℕ) {z : Space} (stands : find id xs ≡ some z) where
+module _ {L : Hundredths} {xs : List Space} (v : Valid L xs) (id : ℕ) {z : Space} (stands : find id xs ≡ some z) where
   -- "Undoing a withdrawal puts the space back at its former place in the order."
   pub withdrawal-leads : Leads (Withdrawn (placeOf id xs) (spaceWith (find id xs))) (idWithdrawn id) xs (without id xs)
   withdrawal-leads =

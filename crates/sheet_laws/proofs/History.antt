@@ -11,6 +11,7 @@ use borrow.Author.Tests.{le-leb}
 use lib.Dec.{leb}
 use lib.ListN.{length, take, drop, length-append, length-drop}
 use lib.Seq.{length-take-le, take-append-seam}
+use Rattle.measure.specs.declared.units.Hundredths.{Hundredths}
 use Rattle.spaces.specs.declared.space.Space.{Space}
 use Rattle.sheet.specs.Sheet.{standing, usable, kept, kept-whole}
 use Rattle.sheet.specs.Changes.{apply, applyBack, withStanding, fitted, withChanges, latest, made, takenBack, noted}
@@ -23,7 +24,7 @@ use Rattle.sheet_laws.specs.Run as run
 use Rattle.sheet_laws.proofs.Undoable.{Leads, Undoable, Redoable, older, then, nothing, next, undoable-noted}
 
 -- a sheet opened with the tonnage length L
-pub record Opened (L : ℕ) (s : Sheet) : Type 0 where
+pub record Opened (L : Hundredths) (s : Sheet) : Type 0 where
   pub is-open : s .opened ≡ 1
   pub length-kept : s .length ≡ L
   pub places : length (s .spaces) ≡ 200
@@ -35,7 +36,7 @@ stand-in-places xs s = take-append-seam xs (drop (length xs) (s .spaces))
 -- Allowed: what the rules allow to stand. start: what stood before the run
 module _ (Allowed : List Space → Type 0) (start : List Space) where
   -- the two chains meet at the spaces that stand, and the sheet's counts are the paper's
-  pub record Kept (L : ℕ) (s : Sheet) (log : run.Log) (k : run.OpenChanges) : Type 0 where
+  pub record Kept (L : Hundredths) (s : Sheet) (log : run.Log) (k : run.OpenChanges) : Type 0 where
     pub opened : Opened L s
     pub count-fits : s .count ≤ 200
     pub open-places : length (s .changes) ≡ 64
@@ -49,7 +50,7 @@ module _ (Allowed : List Space → Type 0) (start : List Space) where
     pub redoable-is : s .redoable ≡ k .redoable
 
   -- its counts are such that calls answer it as an open sheet
-  pub kept-usable : {L : ℕ} {s : Sheet} {log : run.Log} {k : run.OpenChanges} → Kept L s log k → usable s ≡ true
+  pub kept-usable : {L : Hundredths} {s : Sheet} {log : run.Log} {k : run.OpenChanges} → Kept L s log k → usable s ≡ true
   unfolding usable
   kept-usable {s = s} h =
       let u : leb (s .undoable) 64 ≡ true = le-leb (s .undoable) 64 (omega (arith, h .open-fit)) in
@@ -58,7 +59,7 @@ module _ (Allowed : List Space → Type 0) (start : List Space) where
 
   module _ (at-most-200 : (xs : List Space) → Allowed xs → length xs ≤ 200) where
     -- other spaces in the places of an opened sheet, and other open changes
-    pub kept-with : {L : ℕ} {s : Sheet} → Opened L s
+    pub kept-with : {L : Hundredths} {s : Sheet} → Opened L s
         → {ys : List Space} {cs : List OpenChange} {u r : ℕ} {log : run.Log} {k : run.OpenChanges} → Allowed ys → length cs ≡ 64 → u + r ≤ 64
         → Undoable Allowed start cs u ys (log .notUndone) → Redoable Allowed start cs u r ys (log .undone) → u ≡ k .undoable → r ≡ k .redoable
         → Kept L (withChanges cs u r (withStanding ys s)) log k
@@ -83,7 +84,7 @@ module _ (Allowed : List Space → Type 0) (start : List Space) where
           redoable-is = redoable-is;
         }
 
-    module _ {L : ℕ} {s : Sheet} {log : run.Log} {k : run.OpenChanges} (h : Kept L s log k) where
+    module _ {L : Hundredths} {s : Sheet} {log : run.Log} {k : run.OpenChanges} (h : Kept L s log k) where
       -- spaces that are allowed fit
       in-places : {xs ys : List Space} → xs ≡ ys → Allowed ys → fitted xs s ≡ withStanding ys s
       in-places {ys = ys} e allowed =

@@ -10,7 +10,6 @@ use borrow.Author.Tests.{eqb-true, eqb-false, eq-eqb, le-ltb}
 use lib.Dec.{eqb}
 use Rattle.measure.specs.Kinds.{kindOf, isKind}
 use Rattle.measure.specs.Ranges.{within, allWithin, tonnageLengths, lengths, heights, breadths}
-use Rattle.measure.specs.Volumes.{hundredths}
 use Rattle.measure.specs.Offsets.{inRange, measured}
 use Rattle.measure.specs.declared.units.Hundredths.{Hundredths}
 use Rattle.measure.proofs.laws.Tests.{and-left, and-right}
@@ -37,7 +36,7 @@ pub use Rattle.sheet_laws.specs.Resumable.{Resumable, OfRecords}
 -- ---- exactly those spaces of which no record is refused
 
 -- record by record: a number 0 is no 2 and an accepted entry
-all-accepted : (L : ℕ) (pre xs : List Space) → firstRefused L pre xs .number ≡ 0
+all-accepted : (L : Hundredths) (pre xs : List Space) → firstRefused L pre xs .number ≡ 0
     → ValidFrom L pre xs × ((y : Space) → y ∈ xs → misrecorded y ≡ false)
 unfolding recordNumber entryNumber
 all-accepted L pre [] e = (done, λ y m. absurd (List·Memᴰ·not-nil m))
@@ -52,7 +51,7 @@ all-accepted L pre (x ∷ xs) e =
     (λ f. absurd (eqb-false _ _ f (rw f at e)))
 
 -- and the other way round
-none-refused : {L : ℕ} {pre xs : List Space} → ValidFrom L pre xs → ((y : Space) → y ∈ xs → misrecorded y ≡ false)
+none-refused : {L : Hundredths} {pre xs : List Space} → ValidFrom L pre xs → ((y : Space) → y ∈ xs → misrecorded y ≡ false)
     → firstRefused L pre xs .number ≡ 0
 unfolding recordNumber entryNumber
 none-refused done well = refl
@@ -60,7 +59,7 @@ none-refused {L} {pre} (next {x = x} e v) well =
     let number : recordNumber L pre x ≡ 0 = passes (misrecorded x) 2 (entryTests L pre x) (well x (List·Memᴰ·head refl)) ∙ e in
     rw (eq-eqb (recordNumber L pre x) 0 number) (none-refused v (λ y m. well y (List·Memᴰ·tail m)))
 
-pub resumable-exactly : (L : ℕ) (xs : List Space) → (firstRefused L [] xs .number ≡ 0) ↔ Resumable L xs
+pub resumable-exactly : (L : Hundredths) (xs : List Space) → (firstRefused L [] xs .number ≡ 0) ↔ Resumable L xs
 resumable-exactly L xs = (
   λ e. let r = all-accepted L [] xs e in record { valid = r .0; well-recorded = r .1 },
   λ r. none-refused (r .valid) (r .well-recorded),
@@ -69,18 +68,18 @@ resumable-exactly L xs = (
 -- ---- a sheet of recorded spaces, on which no change is open yet
 
 -- one just opened, on which nothing stands
-pub opened-of-records : (L : ℕ) → openedWith L .number ≡ 0 → OfRecords L [] (openedWith L .sheet)
+pub opened-of-records : (L : Hundredths) → openedWith L .number ≡ 0 → OfRecords L [] (openedWith L .sheet)
 unfolding openedWith blank
 opened-of-records L z =
-    by-test (within tonnageLengths L)
+    by-test (within tonnageLengths L.0)
     (λ t. record { length-in-range = t; resumable = resumable-exactly L [] .0 refl; sheet-is = rw t })
     (λ f. let two : _≡_ {A = ℕ} 2 0 = rw f at z in absurd (omega arith))
 
 -- and one resumed, on which its records stand
-pub resumed-of-records : (L : ℕ) (records : List Space) → resumed L records .number ≡ 0 → OfRecords L records (resumed L records .sheet)
+pub resumed-of-records : (L : Hundredths) (records : List Space) → resumed L records .number ≡ 0 → OfRecords L records (resumed L records .sheet)
 unfolding resumed
 resumed-of-records L records z =
-    by-test (within tonnageLengths L)
+    by-test (within tonnageLengths L.0)
     (λ t.
     by-test (eqb (firstRefused L [] records .number) 0)
     (λ u. record { length-in-range = t; resumable = resumable-exactly L records .0 (eqb-true _ _ u); sheet-is = rw (t, u) })
@@ -89,7 +88,7 @@ resumed-of-records L records z =
 
 -- ---- the changes: each keeps the sheet valid, and makes no record that isn't well recorded
 
-pub resumable-entered : {L : ℕ} {xs : List Space} (x : Space) → Resumable L xs → misrecorded x ≡ false → entryNumber L xs x ≡ 0
+pub resumable-entered : {L : Hundredths} {xs : List Space} (x : Space) → Resumable L xs → misrecorded x ≡ false → entryNumber L xs x ≡ 0
     → Resumable L (xs ++ (x ∷ []))
 resumable-entered {L} {xs} x r well e =
     record {
@@ -105,14 +104,14 @@ stood-before id (x ∷ xs) {y} m =
     (λ t. List·Memᴰ·tail (stood-before id xs (rw t at m)))
     (λ f. ⊎-elim (λ (q : y ≡ x). List·Memᴰ·head q) (λ (k : y ∈ without id xs). List·Memᴰ·tail (stood-before id xs k)) (List·Memᴰ·cases-cons (rw f at m)))
 
-pub resumable-withdrawn : {L : ℕ} {xs : List Space} (id : ℕ) → Resumable L xs → withdrawNumber xs id ≡ 0 → Resumable L (without id xs)
+pub resumable-withdrawn : {L : Hundredths} {xs : List Space} (id : ℕ) → Resumable L xs → withdrawNumber xs id ≡ 0 → Resumable L (without id xs)
 resumable-withdrawn {L} {xs} id r e =
     record {
       valid = withdrawal-by-id-keeps-valid id (r .valid) e;
       well-recorded = λ y m. r .well-recorded y (stood-before id xs m);
     }
 
-pub resumable-marked : {L : ℕ} {xs : List Space} (id standing : ℕ) → Resumable L xs → markNumber xs id standing ≡ 0
+pub resumable-marked : {L : Hundredths} {xs : List Space} (id standing : ℕ) → Resumable L xs → markNumber xs id standing ≡ 0
     → Resumable L (marked id standing xs)
 resumable-marked {L} {xs} id standing r e =
     record {
@@ -124,17 +123,17 @@ resumable-marked {L} {xs} id standing r e =
 
 -- an entry whose offsets are accepted is well recorded: its length was in range, its tonnage is at most 100,000,000, and an enclosing id
 -- is recorded only of a room
-pub entry-well-recorded : (t : Hundredths) (e : Entry) (hs bs : List ℕ) → let m = measured (e .kind) t (hundredths (e .length)) hs bs in
+pub entry-well-recorded : (t : Hundredths) (e : Entry) (hs bs : List ℕ) → let m = measured (e .kind) t (e .length) hs bs in
     m .number ≡ 0 → misrecorded (entryOf e (m .tonnage)) ≡ false
 unfolding inRange entryOf
 entry-well-recorded t e hs bs none =
     let k = kindOf (e .kind) in
-    let l = hundredths (e .length) in
+    let l = e .length in
     let m = measured (e .kind) t l hs bs in
     let ranged : inRange k t l hs bs ≡ true = measured-exactly (e .kind) t l hs bs .only-0 none .0 in
     let measures = and-left _ (allWithin (breadths k) bs) ranged in
     let both = and-left _ (allWithin (heights k) hs) measures in
-    let long : within (lengths k) (e .length) ≡ true = and-right (isKind k && within tonnageLengths t.0) (within (lengths k) (e .length)) both in
+    let long : within (lengths k) (e .length .0) ≡ true = and-right (isKind k && within tonnageLengths t.0) (within (lengths k) (e .length .0)) both in
     or-fails-of _ _
     (or-fails-of _ _ (le-ltb _ _ (measured-at-most (e .kind) t l hs bs)) (ap not long))
     (by-test (eqb (e .kind) 5) (λ r. rw r) (λ r. rw r))

@@ -8,6 +8,7 @@ use native.Mathlib.Omega.{arith}
 use borrow.Author.Tests.{eqb-true, eqb-false, eq-eqb, ne-eqb}
 use lib.Dec.{eqb}
 use lib.ListN.{length, length-replicate}
+use Rattle.measure.specs.declared.units.Hundredths.{Hundredths}
 use Rattle.measure.specs.Refusals.{firstOf}
 use Rattle.spaces.specs.declared.space.Space.{Space}
 use Rattle.spaces.specs.Space.{emptySpace}
@@ -33,8 +34,8 @@ pub record Fits (Allowed : List Space → Type 0) (c : Change) (by-id : ChangeBy
   pub leads : Leads c by-id xs then
 
 -- all that the history asks of the rules, where `Allowed L xs` says that the spaces xs may stand with the tonnage length L
-pub record Rules (Allowed : ℕ → List Space → Type 0) : Type 0 where
-  pub at-most-200 : (L : ℕ) (xs : List Space) → Allowed L xs → length xs ≤ 200
+pub record Rules (Allowed : Hundredths → List Space → Type 0) : Type 0 where
+  pub at-most-200 : (L : Hundredths) (xs : List Space) → Allowed L xs → length xs ≤ 200
   pub entry-fits : (s : Sheet) (e : Entry) (hs bs : List ℕ) → Allowed (s .length) (standing s) → entered s e hs bs .number ≡ 0
       → Fits (Allowed (s .length)) (Entered (spaceOf (s .length) e hs bs)) (spaceEntered (spaceOf (s .length) e hs bs)) (standing s)
   pub withdrawal-fits : (s : Sheet) (id : ℕ) → Allowed (s .length) (standing s) → withdrawn s id .number ≡ 0
@@ -79,7 +80,7 @@ some-left {count} r z =
     positive h = omega arith
 
 -- ---- L: the tonnage length; start: the spaces that stood before the run
-module _ (Allowed : ℕ → List Space → Type 0) (rules : Rules Allowed) (L : ℕ) (start : List Space) where
+module _ (Allowed : Hundredths → List Space → Type 0) (rules : Rules Allowed) (L : Hundredths) (start : List Space) where
   abbrev KeptSo : Sheet → Log → OpenChanges → Type 0
   KeptSo s log k = Kept (Allowed L) start L s log k
 
@@ -88,7 +89,7 @@ module _ (Allowed : ℕ → List Space → Type 0) (rules : Rules Allowed) (L : 
     allowed-now = rw (h .stand) (h .allowed)
 
     allowed-so : Allowed (s .length) (standing s)
-    allowed-so = subst (λ (l : ℕ). Allowed l (standing s)) (sym (h .opened .length-kept)) allowed-now
+    allowed-so = subst (λ (l : Hundredths). Allowed l (standing s)) (sym (h .opened .length-kept)) allowed-now
 
     open-now : usable s ≡ true
     open-now = kept-usable (Allowed L) start h
@@ -125,10 +126,10 @@ module _ (Allowed : ℕ → List Space → Type 0) (rules : Rules Allowed) (L : 
         }
 
     -- an accepted change; what it is by id may hang on the tonnage length
-    change-kept : {c : Change} (by-id : ℕ → ChangeById) → Fits (Allowed (s .length)) c (by-id (s .length)) (standing s)
+    change-kept : {c : Change} (by-id : Hundredths → ChangeById) → Fits (Allowed (s .length)) c (by-id (s .length)) (standing s)
         → KeptSo (changed c s) (logChange (by-id L) log) (oneMore k)
     change-kept {c} by-id fits =
-        let f = subst (λ (l : ℕ). Fits (Allowed l) c (by-id l) (standing s)) (h .opened .length-kept) fits in
+        let f = subst (λ (l : Hundredths). Fits (Allowed l) c (by-id l) (standing s)) (h .opened .length-kept) fits in
         kept-changed (Allowed L) start (rules .at-most-200 L) h (f .allowed) (f .leads)
 
   -- an accepted call: a change as the rules have it, undo and redo under any rules

@@ -4,6 +4,7 @@ use mathlib.Core.Path.{_≡_}
 use mathlib.Core.Bool.{true, false}
 use mathlib.Core.List.{List, []}
 use lib.ListN.{length}
+use Rattle.measure.specs.declared.units.Hundredths.{Hundredths}
 use Rattle.spaces.specs.Space.{isPlain}
 use Rattle.spaces.specs.Row.{sumOf}
 use Rattle.standard.specs.Gross.{exempt, gross}
@@ -24,7 +25,7 @@ pub record RefusedAtNil (count number : ℕ) : Type 0 where
 
 -- The history of the sheet s after a run that has this log and these counts, where L is the tonnage length and the spaces `start` stood
 -- at first. It is the same under any rules of what may stand (proofs/Runs).
-pub record HistoryHolds (L : ℕ) (start : List Space) (s : Sheet) (log : Log) (k : OpenChanges) : Type 0 where
+pub record HistoryHolds (L : Hundredths) (start : List Space) (s : Sheet) (log : Log) (k : OpenChanges) : Type 0 where
   -- "the spaces standing are exactly those that the accepted changes not undone would leave if made in order"
   pub standing-is : standing s ≡ replay (log .notUndone) start
   -- the sheet has the paper's counts, and they are those told
@@ -47,7 +48,7 @@ pub record Within (xs : List Space) (r : Reported) : Type 0 where
   pub net-at-most-gross : r .net ≤ r .gross
 
 -- and all that holds under the paper's rules
-pub record Holds (L : ℕ) (start : List Space) (s : Sheet) (log : Log) (k : OpenChanges) : Type 0 where
+pub record Holds (L : Hundredths) (start : List Space) (s : Sheet) (log : Log) (k : OpenChanges) : Type 0 where
   pub history : HistoryHolds L start s log k
   -- each space standing, in order, is accepted as a record after those before it
   pub none-refused : firstRefused L [] (standing s) .number ≡ 0
@@ -60,5 +61,5 @@ pub record Holds (L : ℕ) (start : List Space) (s : Sheet) (log : Log) (k : Ope
   pub report-within : (justified : ℕ) → reported s justified .number ≡ 0 → Within (standing s) (reported s justified)
 
 -- all of that after any calls on the sheet `first`
-abbrev pub AfterAnyRun : ℕ → List Space → Sheet → Type 0
+abbrev pub AfterAnyRun : Hundredths → List Space → Sheet → Type 0
 AfterAnyRun L start first = (calls : List Call) → Holds L start (after calls first) (logOf L calls first) (countsOf calls first)

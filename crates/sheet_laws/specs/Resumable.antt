@@ -1,8 +1,8 @@
 -- Spaces that `resume` accepts, and the sheet that it makes of them.
-use Prim.Native.Nat.{ℕ}
 use mathlib.Core.Path.{_≡_}
 use mathlib.Core.Bool.{true, false}
 use mathlib.Core.List.{List}
+use Rattle.measure.specs.declared.units.Hundredths.{Hundredths}
 use Rattle.measure.specs.Ranges.{within, tonnageLengths}
 use Rattle.standard.specs.Records.{misrecorded}
 use Rattle.standard.specs.Valid.{Valid}
@@ -13,12 +13,12 @@ use Rattle.sheet.specs.Changes.{withStanding}
 use Rattle.sheet.specs.declared.sheet.Sheet.{Sheet}
 
 -- a valid sheet, where L is the tonnage length, and no record that no entry could have made
-pub record Resumable (L : ℕ) (xs : List Space) : Type 0 where
+pub record Resumable (L : Hundredths) (xs : List Space) : Type 0 where
   pub valid : Valid L xs
   pub well-recorded : (y : Space) → y ∈ xs → misrecorded y ≡ false
 
 -- a sheet of recorded spaces, on which no change is open yet
-pub record OfRecords (L : ℕ) (records : List Space) (s : Sheet) : Type 0 where
-  pub length-in-range : within tonnageLengths L ≡ true
+pub record OfRecords (L : Hundredths) (records : List Space) (s : Sheet) : Type 0 where
+  pub length-in-range : within tonnageLengths L.0 ≡ true
   pub resumable : Resumable L records
   pub sheet-is : s ≡ withStanding records (blank true L)

@@ -4,7 +4,7 @@ use Prim.Native.Nat.{ℕ, _+_, _-_, min}
 use mathlib.Core.Bool.{cond}
 use mathlib.Core.List.{List, [], _∷_, _++_}
 use lib.Dec.{eqb}
-use Rattle.measure.specs.Volumes.{hundredths}
+use Rattle.measure.specs.declared.units.Hundredths.{Hundredths}
 use Rattle.measure.specs.Offsets.{measured}
 use Rattle.spaces.specs.declared.space.Space.{Space}
 use Rattle.spaces_laws.specs.Changes.{without, marked as markedById}
@@ -90,11 +90,11 @@ logRedo notUndone [] = record { notUndone = notUndone; undone = [] }
 logRedo notUndone (c ∷ others) = record { notUndone = c ∷ notUndone; undone = others }
 
 -- the space of an entry, measured from its offsets, where L is the tonnage length
-abbrev pub spaceOf : ℕ → Entry → List ℕ → List ℕ → Space
-spaceOf L e heights breadths = entryOf e (measured (e .kind) (hundredths L) (hundredths (e .length)) heights breadths .tonnage)
+abbrev pub spaceOf : Hundredths → Entry → List ℕ → List ℕ → Space
+spaceOf L e heights breadths = entryOf e (measured (e .kind) L (e .length) heights breadths .tonnage)
 
 -- what an accepted call makes of the log
-abbrev pub logAfter : ℕ → Call → Log → Log
+abbrev pub logAfter : Hundredths → Call → Log → Log
 logAfter L (enter e heights breadths) log = logChange (spaceEntered (spaceOf L e heights breadths)) log
 logAfter L (withdraw id) log = logChange (idWithdrawn id) log
 logAfter L (mark id standing) log = logChange (idMarked id standing) log
@@ -103,12 +103,12 @@ logAfter L redo log = logRedo (log .notUndone) (log .undone)
 logAfter L counts log = log
 logAfter L (report justified) log = log
 
-abbrev pub logAfterAll : ℕ → List Call → Log → Log
+abbrev pub logAfterAll : Hundredths → List Call → Log → Log
 logAfterAll L [] log = log
 logAfterAll L (c ∷ calls) log = logAfterAll L calls (logAfter L c log)
 
 -- the log of a run from a sheet
-abbrev pub logOf : ℕ → List Call → Sheet → Log
+abbrev pub logOf : Hundredths → List Call → Sheet → Log
 logOf L calls s = logAfterAll L (accepted calls s) noLog
 
 -- ---- the counts

@@ -53,7 +53,7 @@ abbrev pub amountOf : Amount → Space → ℕ
 amountOf (Inside w) x = only (isRoom x && eqb (x .within) w) (x .tonnage)
 amountOf (Rooms w) x = only (isRoom x && eqb (x .within) w) 1
 -- "Lengths of all U"
-amountOf Lengths x = only (isUnderDeck x) (x .length)
+amountOf Lengths x = only (isUnderDeck x) (x .length .0)
 -- "T: all U, B and S"; "the sum of all H"
 amountOf Hull x = only (isHull x) (x .tonnage)
 amountOf Hatchways x = only (isHatchway x) (x .tonnage)

@@ -5,7 +5,7 @@ use Rattle.spaces.specs.declared.space.Space.{Space}
 
 -- the record of a free place
 abbrev pub emptySpace : Space
-emptySpace = record { id = 0; within = 0; kind = 0; standing = 0; tonnage = 0; length = 0 }
+emptySpace = record { id = 0; within = 0; kind = 0; standing = 0; tonnage = 0; length = record { 0 = 0 } }
 
 -- the kinds by their codes: 1 U, 2 B, 3 S, 4 H, 5 R
 abbrev pub isUnderDeck : Space → Bool

@@ -1,4 +1,5 @@
 // A space as its record has it ("Spaces").
+use measure::units::Hundredths;
 ghost use mathlib.Core.Path.{_≡_};
 ghost use Rattle.spaces.specs.Space.{emptySpace};
 
@@ -9,9 +10,9 @@ pub struct Space {
     pub within: u16,
     pub kind: u8,
     pub standing: u8,
-    // In hundredths of a ton, and of a foot.
+    // In hundredths of a ton.
     pub tonnage: u32,
-    pub length: u32,
+    pub length: Hundredths,
 }
 
 // The codes of the kinds that the rules name.
@@ -35,6 +36,6 @@ pub fn empty() -> Space
         kind: 0,
         standing: 0,
         tonnage: 0,
-        length: 0,
+        length: Hundredths(0),
     }
 }

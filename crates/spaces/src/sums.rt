@@ -73,7 +73,7 @@ pub(crate) fn share(which: Amount, x: Space) -> u64
     match which {
         Amount::Inside(id) => only(is_inside(x, id), x.tonnage),
         Amount::Rooms(id) => only(is_inside(x, id), 1),
-        Amount::Lengths => only(x.kind == UNDER_DECK, x.length),
+        Amount::Lengths => only(x.kind == UNDER_DECK, x.length.0),
         Amount::Hull => only(is_hull(x), x.tonnage),
         Amount::Hatchways => only(x.kind == HATCHWAY, x.tonnage),
         Amount::Exempt => only(x.standing == 1, x.tonnage),

@@ -1,5 +1,5 @@
 -- An entry is accepted (none of 4 to 10 applies) exactly where the facts of `Accepted` hold. Stands on Refusals, Lists, Walk.
-use Prim.Native.Nat.{ℕ, _+_, _≤_}
+use Prim.Native.Nat.{_+_, _≤_}
 use mathlib.Core.Path.{_≡_, ap, _∙_}
 use mathlib.Core.Bool.{true, false, not, _&&_, _||_}
 use mathlib.Core.List.{List}
@@ -8,6 +8,7 @@ use native.Mathlib.Omega.{arith}
 use borrow.Author.Tests.{ltb-false, leb-false, le-ltb, lt-leb, not-true, not-false}
 use lib.Dec.{ltb}
 use lib.ListN.{length}
+use Rattle.measure.specs.declared.units.Hundredths.{Hundredths}
 use Rattle.measure.specs.Refusals.{none as no-more}
 use Rattle.measure_laws.proofs.Refusals.{accepted}
 use Rattle.spaces.specs.declared.space.Space.{Space}
@@ -49,7 +50,7 @@ module _ (xs : List Space) (x : Space) where
         → passesEnclosing xs x (enclosing xs x) ≡ false
     not-passed fit = by-test (isRoom x) (λ r. rw (enclosing-is r) (le-ltb _ _ (fit r))) (λ r. rw (enclosing-of-other xs x r))
 
-pub facts-of-entry : (L : ℕ) (xs : List Space) (x : Space) → entryNumber L xs x ≡ 0 → Accepted L xs x
+pub facts-of-entry : (L : Hundredths) (xs : List Space) (x : Space) → entryNumber L xs x ≡ 0 → Accepted L xs x
 unfolding entryNumber
 facts-of-entry L xs x e =
     let (id-free, from-5) = apart (none-applies (entryTests L xs x) (omega arith) e) in
@@ -77,7 +78,7 @@ facts-of-entry L xs x e =
       place-left = leb-false _ _ place-left;
     }
 
-pub entry-of-facts : (L : ℕ) (xs : List Space) (x : Space) → Accepted L xs x → entryNumber L xs x ≡ 0
+pub entry-of-facts : (L : Hundredths) (xs : List Space) (x : Space) → Accepted L xs x → entryNumber L xs x ≡ 0
 unfolding entryNumber
 entry-of-facts L xs x a =
     let range : (ltb (x .id) 1 || ltb 9999 (x .id)) ≡ false = or-fails-of _ _ (le-ltb _ _ (a .id-at-least)) (le-ltb _ _ (a .id-at-most)) in
@@ -85,7 +86,7 @@ entry-of-facts L xs x a =
     let placed : misplaced xs x ≡ false = or-fails-of _ _ (ap not (a .may-take)) (not-in-hatchway xs x (a .enclosed)) in
     let shallow : tooDeep xs x ≡ false = le-ltb _ _ (a .level-at-most) in
     let once : offTwice xs x ≡ false = and-fails-of _ _ (λ p. ap not (a .plain-above (not-true _ p))) in
-    let lengths : (isUnderDeck x && ltb L (sumOf Lengths xs + x .length)) ≡ false = and-fails-of _ _ (λ u. le-ltb _ _ (a .lengths-fit u)) in
+    let lengths : (isUnderDeck x && ltb L.0 (sumOf Lengths xs + x .length .0)) ≡ false = and-fails-of _ _ (λ u. le-ltb _ _ (a .lengths-fit u)) in
     let fits : overfull L xs x ≡ false = or-fails-of _ _ (not-passed xs x (a .enclosed) (a .rooms-fit)) lengths in
     let place : noPlace xs ≡ false = lt-leb _ _ (a .place-left) in
     let from-7 = together shallow (together once (together fits (together place no-more))) in

@@ -9,6 +9,7 @@ use mathlib.Core.Logic.{_↔_}
 use native.Mathlib.Omega.{arith}
 use borrow.Author.Tests.{ltb-true, lt-ltb}
 use lib.ListN.{length}
+use Rattle.measure.specs.declared.units.Hundredths.{Hundredths}
 use Rattle.spaces.specs.declared.space.Space.{Space}
 use Rattle.spaces.specs.Space.{isRoom}
 use Rattle.spaces.specs.Enclosure.{enclosing, upward, above, level}
@@ -41,7 +42,7 @@ walked-level (suc left) xs all y h l =
     let u = ap length (upward-none (suc left) xs y (enclosing-of-other xs y r)) in
     subst (λ (n : ℕ). LevelIs xs y (n + 1)) (sym u) (outermost r))
 
-pub level-exactly : {L : ℕ} {xs : List Space} → Valid L xs → (y : Space) → y ∈ xs → (n : ℕ) → (level xs y ≡ n) ↔ LevelIs xs y n
+pub level-exactly : {L : Hundredths} {xs : List Space} → Valid L xs → (y : Space) → y ∈ xs → (n : ℕ) → (level xs y ≡ n) ↔ LevelIs xs y n
 unfolding above
 level-exactly {L} {xs} v y m n =
     let s = valid-is-sound v in
@@ -65,7 +66,7 @@ too-deep-among-any xs x = (
 )
 
 -- and on a valid sheet, where none is past it
-pub too-deep-exactly : {L : ℕ} {xs : List Space} → Valid L xs → (x : Space) → (tooDeep xs x ≡ true) ↔ InsideLevel8 xs x
+pub too-deep-exactly : {L : Hundredths} {xs : List Space} → Valid L xs → (x : Space) → (tooDeep xs x ≡ true) ↔ InsideLevel8 xs x
 too-deep-exactly {L} {xs} v x = (
   λ t.
       let h = too-deep-among-any xs x .0 t in

@@ -10,6 +10,7 @@ use borrow.Author.Tests.{eqb-true, eqb-false, eq-eqb, ne-eqb, not-true, not-fals
 use lib.Dec.{eqb}
 use lib.ListN.{length, length-map}
 use lib.Seq.{append-snoc}
+use Rattle.measure.specs.declared.units.Hundredths.{Hundredths}
 use Rattle.measure.specs.Refusals.{none as no-more}
 use Rattle.measure_laws.proofs.Refusals.{accepted}
 use Rattle.spaces.specs.declared.space.Space.{Space}
@@ -113,7 +114,7 @@ module _ (id standing : ℕ) where
     plain-above : eqb standing 0 ≡ false → x .id ≡ id → allPlain zs ≡ true
     plain-below : eqb standing 0 ≡ false → (z : Space) → z ∈ zs → z .id ≡ id → isPlain x ≡ true
 
-  module _ (L : ℕ) (pre : List Space) (x : Space) (a : Accepted L pre x) (s : Suits (above pre x) x) where
+  module _ (L : Hundredths) (pre : List Space) (x : Space) (a : Accepted L pre x) (s : Suits (above pre x) x) where
     takes-marked : mayTake (x .kind) (new x .standing) ≡ true
     takes-marked = by-test (eqb (x .id) id) (λ t. rw t (s .may-take (eqb-true _ _ t))) (λ f. rw f (a .may-take))
 
@@ -151,7 +152,7 @@ module _ (id standing : ℕ) where
           place-left = omega (arith, a .place-left, length-map pre new);
         }
 
-  valid-marked : (L : ℕ) (all : List Space) → ((y : Space) → y ∈ all → Suits (above all y) y)
+  valid-marked : (L : Hundredths) (all : List Space) → ((y : Space) → y ∈ all → Suits (above all y) y)
       → {pre xs : List Space} → pre ++ xs ≡ all → Sound L pre → ValidFrom L pre xs → ValidFrom L (map new pre) (map new xs)
   valid-marked L all suits e sound done = done
   valid-marked L all suits {pre} e sound (next {x = x} {xs = xs} n v) =
@@ -162,7 +163,7 @@ module _ (id standing : ℕ) where
       (entry-of-facts L _ (new x) (accepted-marked L pre x a (subst (λ (l : List Space). Suits l x) u (suits x m))))
       (rw map-append at (valid-marked L all suits (append-snoc pre x xs ∙ e) (sound-entered L pre x sound a) v))
 
-pub mark-by-id-keeps-valid : {L : ℕ} {xs : List Space} (id standing : ℕ) → Valid L xs → markNumber xs id standing ≡ 0
+pub mark-by-id-keeps-valid : {L : Hundredths} {xs : List Space} (id standing : ℕ) → Valid L xs → markNumber xs id standing ≡ 0
     → Valid L (marked id standing xs)
 mark-by-id-keeps-valid {L} {xs} id standing v e =
     let m = facts-of-mark xs id standing e in

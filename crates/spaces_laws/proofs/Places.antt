@@ -9,6 +9,7 @@ use native.Mathlib.Omega.{arith}
 use borrow.Author.Tests.{eqb-true, eq-eqb, ne-eqb}
 use lib.Dec.{eqb}
 use lib.ListN.{length, getD, take, drop, set}
+use Rattle.measure.specs.declared.units.Hundredths.{Hundredths}
 use Rattle.spaces.specs.declared.space.Space.{Space}
 use Rattle.spaces.specs.Space.{emptySpace}
 use Rattle.spaces.specs.Row.{find, placeOf}
@@ -29,20 +30,20 @@ IdsDiffer [] = Unit {0}
 IdsDiffer (x ∷ xs) = (find (x .id) xs ≡ none) × IdsDiffer xs
 
 -- an id that stands isn't entered again
-entered-once : {L : ℕ} (id : ℕ) {pre xs : List Space} {z : Space} → ValidFrom L pre xs → find id pre ≡ some z → find id xs ≡ none
+entered-once : {L : Hundredths} (id : ℕ) {pre xs : List Space} {z : Space} → ValidFrom L pre xs → find id pre ≡ some z → find id xs ≡ none
 entered-once id done e = refl
 entered-once {L} id {pre} {z = z} (next {x = x} {xs = xs} n v) e =
     find-further id x xs (λ q. none-not-some (facts-of-entry L pre x n .id-free) (ap (λ (i : ℕ). find i pre) q ∙ e))
     ∙ entered-once id v (find-before id pre (x ∷ []) {z = z} e)
 
-ids-differ-from : {L : ℕ} {pre xs : List Space} → ValidFrom L pre xs → IdsDiffer xs
+ids-differ-from : {L : Hundredths} {pre xs : List Space} → ValidFrom L pre xs → IdsDiffer xs
 ids-differ-from done = tt
 ids-differ-from {L} {pre} (next {x = x} n v) = (
   entered-once (x .id) v (find-behind (x .id) pre (x ∷ []) (facts-of-entry L pre x n .id-free) ∙ find-here (x .id) x [] refl),
   ids-differ-from v,
 )
 
-pub ids-differ : {L : ℕ} {xs : List Space} → Valid L xs → IdsDiffer xs
+pub ids-differ : {L : Hundredths} {xs : List Space} → Valid L xs → IdsDiffer xs
 ids-differ v = ids-differ-from v
 
 place-where-different : (xs : List Space) → IdsDiffer xs → (i : ℕ) → i < length xs → placeOf (getD xs i emptySpace .id) xs ≡ i
@@ -54,7 +55,7 @@ place-where-different (x ∷ xs) d (suc i) h =
     rw other (ap suc (place-where-different xs (d .1) i k))
 
 -- the space at a place stands at no other
-pub place-of-id-at : {L : ℕ} {xs : List Space} → Valid L xs → (i : ℕ) → i < length xs → placeOf (getD xs i emptySpace .id) xs ≡ i
+pub place-of-id-at : {L : Hundredths} {xs : List Space} → Valid L xs → (i : ℕ) → i < length xs → placeOf (getD xs i emptySpace .id) xs ≡ i
 place-of-id-at {L} {xs} v i h = place-where-different xs (ids-differ v) i h
 
 -- ---- withdrawn and marked, by id and by place
@@ -94,20 +95,20 @@ marked-where-different id standing (x ∷ xs) d =
     (λ f. rw f (ap (λ (l : List Space). x ∷ l) (marked-where-different id standing xs (d .1))))
 
 -- (an id that doesn't stand has the place after the last: nothing is taken out or set)
-pub without-by-place : {L : ℕ} {xs : List Space} (id : ℕ) → Valid L xs
+pub without-by-place : {L : Hundredths} {xs : List Space} (id : ℕ) → Valid L xs
     → without id xs ≡ take (placeOf id xs) xs ++ drop (suc (placeOf id xs)) xs
 without-by-place {L} {xs} id v = without-where-different id xs (ids-differ v)
 
-pub marked-by-place : {L : ℕ} {xs : List Space} (id standing : ℕ) → Valid L xs
+pub marked-by-place : {L : Hundredths} {xs : List Space} (id standing : ℕ) → Valid L xs
     → marked id standing xs ≡ set xs (placeOf id xs) (restanding standing (getD xs (placeOf id xs) emptySpace))
 marked-by-place {L} {xs} id standing v = marked-where-different id standing xs (ids-differ v)
 
 -- ---- the changes by place keep a sheet valid
 
-pub withdrawal-keeps-valid : {L : ℕ} {xs : List Space} (id : ℕ) → Valid L xs → withdrawNumber xs id ≡ 0
+pub withdrawal-keeps-valid : {L : Hundredths} {xs : List Space} (id : ℕ) → Valid L xs → withdrawNumber xs id ≡ 0
     → Valid L (take (placeOf id xs) xs ++ drop (suc (placeOf id xs)) xs)
 withdrawal-keeps-valid {L} id v e = subst (Valid L) (without-by-place id v) (withdrawal-by-id-keeps-valid id v e)
 
-pub mark-keeps-valid : {L : ℕ} {xs : List Space} (id standing : ℕ) → Valid L xs → markNumber xs id standing ≡ 0
+pub mark-keeps-valid : {L : Hundredths} {xs : List Space} (id standing : ℕ) → Valid L xs → markNumber xs id standing ≡ 0
     → Valid L (set xs (placeOf id xs) (restanding standing (getD xs (placeOf id xs) emptySpace)))
 mark-keeps-valid {L} id standing v e = subst (Valid L) (marked-by-place id standing v) (mark-by-id-keeps-valid id standing v e)

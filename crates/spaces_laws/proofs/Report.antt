@@ -8,6 +8,7 @@ use mathlib.Core.Logic.{_↔_}
 use native.Mathlib.Nat.{le-trans}
 use native.Mathlib.Omega.{arith}
 use borrow.Author.Tests.{ltb-true, lt-ltb}
+use Rattle.measure.specs.declared.units.Hundredths.{Hundredths}
 use Rattle.measure.specs.Handed.{mostTons}
 use Rattle.measure.specs.Rounding.{nearest}
 use Rattle.measure.specs.Allowances.{hatchwayAllowance, hatchwayExcess, ballastOver}
@@ -24,7 +25,7 @@ use Rattle.spaces_laws.proofs.Standings.{hull-or-hatchway}
 use Rattle.spaces_laws.proofs.Valid.{valid-is-sound}
 use Rattle.spaces_laws.proofs.Twice.{taken-off-at-most-whole}
 
-pub report-exact : {L : ℕ} {xs : List Space} → Valid L xs → Exact xs
+pub report-exact : {L : Hundredths} {xs : List Space} → Valid L xs → Exact xs
 unfolding net gross grossOver
 report-exact v = omega (arith, taken-off-at-most-whole v)
 
@@ -56,7 +57,7 @@ gross-less-only {off} {xs} {gross} r =
     ∙ ap (λ (n : ℕ). r .g + (sumOf Hatchways xs - n)) (sym allowance)
     ∙ ap (λ (n : ℕ). n + (sumOf Hatchways xs - nearest n 200)) g
 
-pub gross-exactly : {L : ℕ} {xs : List Space} → Valid L xs → (n : ℕ) → (gross xs ≡ n) ↔ GrossLess (exempt xs) xs n
+pub gross-exactly : {L : Hundredths} {xs : List Space} → Valid L xs → (n : ℕ) → (gross xs ≡ n) ↔ GrossLess (exempt xs) xs n
 unfolding gross
 gross-exactly {L} {xs} v n = (
   λ e. subst (GrossLess (exempt xs) xs) e (gross-less-is (exempt xs) xs (omega (arith, taken-off-at-most-whole v))),
@@ -64,7 +65,7 @@ gross-exactly {L} {xs} v n = (
 )
 
 -- "If standing 2 adds up to more than 30% of it"
-pub unjustified-exactly : {L : ℕ} {xs : List Space} → Valid L xs → (unjustified xs ≡ true) ↔ OverThirtyPercent xs
+pub unjustified-exactly : {L : Hundredths} {xs : List Space} → Valid L xs → (unjustified xs ≡ true) ↔ OverThirtyPercent xs
 unfolding unjustified ballastOver
 unjustified-exactly {L} {xs} v =
     let off = sumOf Exempt xs in
@@ -87,7 +88,7 @@ unfolding grossOver hatchwayExcess
 gross-over-at-most-whole g xs h = omega arith
 
 -- where no record holds a tonnage over 100,000,000, no gross is over that for each of 200 places
-pub gross-over-bounded : {L : ℕ} {xs : List Space} → Valid L xs → ((y : Space) → y ∈ xs → y .tonnage ≤ mostTons)
+pub gross-over-bounded : {L : Hundredths} {xs : List Space} → Valid L xs → ((y : Space) → y ∈ xs → y .tonnage ≤ mostTons)
     → (g : ℕ) → g ≤ sumOf Hull xs → grossOver g (sumOf Hatchways xs) ≤ 200 * mostTons
 gross-over-bounded {L} {xs} v most g h =
     omega (
@@ -102,6 +103,6 @@ pub gross-at-most-whole : (xs : List Space) → gross xs ≤ sumOf Hull xs + sum
 unfolding gross
 gross-at-most-whole xs = gross-over-at-most-whole (sumOf Hull xs - exempt xs) xs (omega arith)
 
-pub gross-bounded : {L : ℕ} {xs : List Space} → Valid L xs → ((y : Space) → y ∈ xs → y .tonnage ≤ mostTons) → gross xs ≤ 200 * mostTons
+pub gross-bounded : {L : Hundredths} {xs : List Space} → Valid L xs → ((y : Space) → y ∈ xs → y .tonnage ≤ mostTons) → gross xs ≤ 200 * mostTons
 unfolding gross
 gross-bounded {L} {xs} v most = gross-over-bounded v most (sumOf Hull xs - exempt xs) (omega arith)

@@ -8,6 +8,7 @@ use mathlib.Core.Option.{some}
 use native.Mathlib.Omega.{arith}
 use borrow.Author.Tests.{eqb-true}
 use lib.Dec.{eqb}
+use Rattle.measure.specs.declared.units.Hundredths.{Hundredths}
 use Rattle.spaces.specs.declared.space.Space.{Space}
 use Rattle.spaces.specs.declared.sums.Amount.the-variants.{Inside, Hull, Exempt, Ballast, Deducted}
 use Rattle.spaces.specs.Space.{isHatchway, isRoom, isPlain}
@@ -25,13 +26,13 @@ use Rattle.spaces_laws.proofs.Valid.{same-by-id, valid-is-sound}
 use Rattle.spaces_laws.proofs.Standings.{may-take-is, Kinded, hull, hatchway, room, kinded}
 
 -- what is anywhere above a space that isn't plain is plain
-pub plain-anywhere-above : {L : ℕ} {xs : List Space} → Valid L xs → {y z : Space} → y ∈ xs → isPlain y ≡ false → Above xs y z → isPlain z ≡ true
+pub plain-anywhere-above : {L : Hundredths} {xs : List Space} → Valid L xs → {y z : Space} → y ∈ xs → isPlain y ≡ false → Above xs y z → isPlain z ≡ true
 plain-anywhere-above {L} {xs} v {y} {z} m p a =
     let o = valid-is-sound v .member y m in
     plain-of-all (o .plain-above p) (above-exactly xs y z (o .level-at-most) .1 a)
 
 -- "of two standing spaces that aren't plain neither is anywhere above the other"
-pub neither-above-the-other : {L : ℕ} {xs : List Space} → Valid L xs → {y z : Space} → y ∈ xs → z ∈ xs → isPlain y ≡ false → isPlain z ≡ false
+pub neither-above-the-other : {L : Hundredths} {xs : List Space} → Valid L xs → {y z : Space} → y ∈ xs → z ∈ xs → isPlain y ≡ false → isPlain z ≡ false
     → (Above xs y z → ⊥) × (Above xs z y → ⊥)
 neither-above-the-other v m n p q = (
   λ a. not-both (plain-anywhere-above v m p a) q,
@@ -39,7 +40,7 @@ neither-above-the-other v m n p q = (
 )
 
 -- so "none that isn't plain anywhere above or below it"
-pub all-plain-below : {L : ℕ} {xs : List Space} → Valid L xs → {y : Space} → y ∈ xs → isPlain y ≡ false → allPlain (below (y .id) xs) ≡ true
+pub all-plain-below : {L : Hundredths} {xs : List Space} → Valid L xs → {y : Space} → y ∈ xs → isPlain y ≡ false → allPlain (below (y .id) xs) ≡ true
 unfolding above
 all-plain-below {L} {xs} v {y} m p = all-plain-of (below (y .id) xs) plain
   where
@@ -101,7 +102,7 @@ module _ (xs : List Space) (y : Space) where
       (λ e. omega (arith, under-clear r e, either-or))
       (λ e. omega (arith, none-taken (by-test (isPlain y) (λ p. p) (λ p. not-both (plain-above p) e)), not-clear e))
 
-module _ (L : ℕ) (xs : List Space) (s : Sound L xs) where
+module _ (L : Hundredths) (xs : List Space) (s : Sound L xs) where
   taken-at : (y : Space) → y ∈ xs → takenTons y + clearTons xs y ≤ amountOf Hull y + underClear xs y
   taken-at y m = let o = s .member y m in taken-of-kind xs y (o .plain-above) (kinded (may-take-is (y .kind) (y .standing) (o .may-take)))
 
@@ -153,7 +154,7 @@ taken-once standing n =
     (λ n2. by-test (eqb standing 3) (λ e. rw (eqb-true standing 3 e) (omega arith)) (λ n3. rw (n1, n2, n3) (omega arith))))
 
 -- "E + D is not more than T"
-pub taken-off-at-most-whole : {L : ℕ} {xs : List Space} → Valid L xs → exempt xs + sumOf Deducted xs ≤ sumOf Hull xs
+pub taken-off-at-most-whole : {L : Hundredths} {xs : List Space} → Valid L xs → exempt xs + sumOf Deducted xs ≤ sumOf Hull xs
 taken-off-at-most-whole {L} {xs} v =
     omega (
       arith,

@@ -9,6 +9,7 @@ use borrow.Author.Tests.{eqb-true}
 use lib.Dec.{eqb}
 use lib.ListN.{length, length-append}
 use lib.Seq.{append-snoc}
+use Rattle.measure.specs.declared.units.Hundredths.{Hundredths}
 use Rattle.spaces.specs.declared.space.Space.{Space}
 use Rattle.spaces.specs.declared.sums.Amount.the-variants.{Inside, Lengths}
 use Rattle.spaces.specs.Space.{isUnderDeck, isRoom}
@@ -34,7 +35,7 @@ enclosed-append xs ys y h =
     record { home = h .home; home-stands = find-before _ xs ys (h .home-stands); no-hatchway = h .no-hatchway }
 
 -- what is above a space stays above it however the sheet goes on
-pub above-kept : {L : ℕ} {xs : List Space} → Sound L xs → (ys : List Space) (y : Space) → (isRoom y ≡ true → Enclosed xs y)
+pub above-kept : {L : Hundredths} {xs : List Space} → Sound L xs → (ys : List Space) (y : Space) → (isRoom y ≡ true → Enclosed xs y)
     → above (xs ++ ys) y ≡ above xs y
 unfolding above
 above-kept {L} {xs} s ys y h = upward-append 8 xs ys (λ z m. closed (s .member z m .enclosed)) y (closed h)
@@ -45,7 +46,7 @@ same-by-id {xs} id o e q = some-same e (ap (λ (n : ℕ). find n xs) (sym q) ∙
 
 -- ---- one more entry
 
-module _ (L : ℕ) (xs : List Space) (x : Space) (s : Sound L xs) (a : Accepted L xs x) where
+module _ (L : Hundredths) (xs : List Space) (x : Space) (s : Sound L xs) (a : Accepted L xs x) where
   -- where an id doesn't stand, no room is inside it
   none-inside : (id : ℕ) → find id xs ≡ none → (y : Space) → (isRoom y ≡ true → Enclosed xs y) → amountOf (Inside id) y ≡ 0
   none-inside id absent y h =
@@ -95,11 +96,11 @@ module _ (L : ℕ) (xs : List Space) (x : Space) (s : Sound L xs) (a : Accepted 
             );
       }
 
-  lengths-kept : sumOf Lengths (xs ++ (x ∷ [])) ≤ L
+  lengths-kept : sumOf Lengths (xs ++ (x ∷ [])) ≤ L.0
   lengths-kept =
       let e = sum-append (amountOf Lengths) xs (x ∷ []) in
       by-test (isUnderDeck x)
-      (λ u. let n : sumOf Lengths (xs ++ (x ∷ [])) ≡ sumOf Lengths xs + (x .length + 0) = rw u at e in omega (arith, a .lengths-fit u))
+      (λ u. let n : sumOf Lengths (xs ++ (x ∷ [])) ≡ sumOf Lengths xs + (x .length .0 + 0) = rw u at e in omega (arith, a .lengths-fit u))
       (λ u. let n : sumOf Lengths (xs ++ (x ∷ [])) ≡ sumOf Lengths xs + (0 + 0) = rw u at e in omega (arith, s .lengths-fit))
 
   pub sound-entered : Sound L (xs ++ (x ∷ []))
@@ -110,23 +111,23 @@ module _ (L : ℕ) (xs : List Space) (x : Space) (s : Sound L xs) (a : Accepted 
         at-most-200 = omega (arith, a .place-left, length-append xs (x ∷ []));
       }
 
-pub sound-empty : (L : ℕ) → Sound L []
+pub sound-empty : (L : Hundredths) → Sound L []
 sound-empty L =
     record { member = λ y m. absurd (List·Memᴰ·not-nil m); lengths-fit = omega arith; at-most-200 = omega arith }
 
-sound-from : {L : ℕ} {pre xs : List Space} → Sound L pre → ValidFrom L pre xs → Sound L (pre ++ xs)
+sound-from : {L : Hundredths} {pre xs : List Space} → Sound L pre → ValidFrom L pre xs → Sound L (pre ++ xs)
 sound-from {L} {pre} s done = rw append-nil s
 sound-from {L} {pre} s (next {x = x} e v) = rw append-snoc at (sound-from (sound-entered L pre x s (facts-of-entry L pre x e)) v)
 
-pub valid-is-sound : {L : ℕ} {xs : List Space} → Valid L xs → Sound L xs
+pub valid-is-sound : {L : Hundredths} {xs : List Space} → Valid L xs → Sound L xs
 valid-is-sound {L} v = sound-from (sound-empty L) v
 
 -- ---- a valid sheet and what goes on from it
 
-valid-joined : {L : ℕ} {pre xs : List Space} (ys : List Space) → ValidFrom L pre xs → ValidFrom L (pre ++ xs) ys → ValidFrom L pre (xs ++ ys)
+valid-joined : {L : Hundredths} {pre xs : List Space} (ys : List Space) → ValidFrom L pre xs → ValidFrom L (pre ++ xs) ys → ValidFrom L pre (xs ++ ys)
 valid-joined {L} {pre} ys done w = rw append-nil at w
 valid-joined {L} {pre} ys (next e v) w = next e (valid-joined ys v (rw append-snoc w))
 
 -- an accepted entry at the end keeps a sheet valid
-pub valid-entered : {L : ℕ} {xs : List Space} (x : Space) → Valid L xs → entryNumber L xs x ≡ 0 → Valid L (xs ++ (x ∷ []))
+pub valid-entered : {L : Hundredths} {xs : List Space} (x : Space) → Valid L xs → entryNumber L xs x ≡ 0 → Valid L (xs ++ (x ∷ []))
 valid-entered x v e = valid-joined (x ∷ []) v (next e done)

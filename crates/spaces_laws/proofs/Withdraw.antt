@@ -8,6 +8,7 @@ use native.Mathlib.Omega.{arith}
 use borrow.Author.Tests.{ltb-false, le-ltb, eqb-true, eqb-false, not-false}
 use lib.Dec.{eqb}
 use lib.ListN.{length}
+use Rattle.measure.specs.declared.units.Hundredths.{Hundredths}
 use Rattle.measure.specs.Refusals.{none as no-more}
 use Rattle.measure_laws.proofs.Refusals.{accepted}
 use Rattle.spaces.specs.declared.space.Space.{Space}
@@ -102,7 +103,7 @@ upward-without (suc left) id xs empty y out =
 
 -- ---- an entry after the spaces without one
 
-accepted-without : (L id : ℕ) (xs : List Space) (y : Space) → ((z : Space) → z ∈ xs → Outside id z) → Outside id y
+accepted-without : (L : Hundredths) (id : ℕ) (xs : List Space) (y : Space) → ((z : Space) → z ∈ xs → Outside id z) → Outside id y
     → (y .id ≡ id → ⊥) → Accepted L xs y → Accepted L (without id xs) y
 unfolding above
 accepted-without L id xs y empty out other a =
@@ -122,7 +123,7 @@ accepted-without L id xs y empty out other a =
       place-left = omega (arith, a .place-left, length-without id xs);
     }
 
-valid-without : (L id : ℕ) {pre xs : List Space} → ((y : Space) → y ∈ pre → Outside id y) → ((y : Space) → y ∈ xs → Outside id y)
+valid-without : (L : Hundredths) (id : ℕ) {pre xs : List Space} → ((y : Space) → y ∈ pre → Outside id y) → ((y : Space) → y ∈ xs → Outside id y)
     → ValidFrom L pre xs → ValidFrom L (without id pre) (without id xs)
 valid-without L id before behind done = done
 valid-without L id {pre} before behind (next {x = x} {xs = xs} e v) =
@@ -136,6 +137,6 @@ valid-without L id {pre} before behind (next {x = x} {xs = xs} e v) =
     (entry-of-facts L _ x (accepted-without L id pre x before out (eqb-false _ _ f) (facts-of-entry L pre x e)))
     (rw (without-append id pre (x ∷ []), without-further id x [] f) at rest)))
 
-pub withdrawal-by-id-keeps-valid : {L : ℕ} {xs : List Space} (id : ℕ) → Valid L xs → withdrawNumber xs id ≡ 0 → Valid L (without id xs)
+pub withdrawal-by-id-keeps-valid : {L : Hundredths} {xs : List Space} (id : ℕ) → Valid L xs → withdrawNumber xs id ≡ 0 → Valid L (without id xs)
 withdrawal-by-id-keeps-valid {L} {xs} id v e =
     valid-without L id (λ y m. absurd (List·Memᴰ·not-nil m)) (facts-of-withdrawal xs id e .no-room-inside) v

@@ -6,6 +6,7 @@ use mathlib.Core.List.{List}
 use mathlib.Core.Option.{none, some}
 use lib.Dec.{eqb}
 use lib.ListN.{length}
+use Rattle.measure.specs.declared.units.Hundredths.{Hundredths}
 use Rattle.spaces.specs.Space.{isUnderDeck, isHatchway, isRoom, isPlain}
 use Rattle.standard.specs.Standings.{mayTake}
 use Rattle.spaces.specs.Row.{find, sumOf}
@@ -21,7 +22,7 @@ pub record Enclosed (xs : List Space) (x : Space) : Type 0 where
   pub no-hatchway : isHatchway home ≡ false
 
 -- what the numbers 4 to 10 leave of an entry
-pub record Accepted (L : ℕ) (xs : List Space) (x : Space) : Type 0 where
+pub record Accepted (L : Hundredths) (xs : List Space) (x : Space) : Type 0 where
   pub id-at-least : 1 ≤ x .id
   pub id-at-most : x .id ≤ 9999
   pub id-free : find (x .id) xs ≡ none
@@ -30,7 +31,7 @@ pub record Accepted (L : ℕ) (xs : List Space) (x : Space) : Type 0 where
   pub level-at-most : level xs x ≤ 8
   pub plain-above : isPlain x ≡ false → allPlain (above xs x) ≡ true
   pub rooms-fit : (r : isRoom x ≡ true) → sumOf (Inside (x .within)) xs + x .tonnage ≤ enclosed r .home .tonnage
-  pub lengths-fit : isUnderDeck x ≡ true → sumOf Lengths xs + x .length ≤ L
+  pub lengths-fit : isUnderDeck x ≡ true → sumOf Lengths xs + x .length .0 ≤ L.0
   pub place-left : length xs < 200
 
 -- a space is no room directly inside the one with an id

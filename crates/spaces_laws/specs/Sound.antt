@@ -1,10 +1,11 @@
 -- What holds of a valid sheet and of every space on it, whatever the order.
-use Prim.Native.Nat.{ℕ, _≤_}
+use Prim.Native.Nat.{_≤_}
 use mathlib.Core.Path.{_≡_}
 use mathlib.Core.Bool.{true, false}
 use mathlib.Core.List.{List}
 use mathlib.Core.Option.{some}
 use lib.ListN.{length}
+use Rattle.measure.specs.declared.units.Hundredths.{Hundredths}
 use Rattle.spaces.specs.Space.{isRoom, isPlain}
 use Rattle.standard.specs.Standings.{mayTake}
 use Rattle.spaces.specs.Row.{find, sumOf}
@@ -26,8 +27,8 @@ pub record Member (xs : List Space) (y : Space) : Type 0 where
   -- "Rooms directly inside a space have recorded tonnages that add up to no more than its own"
   pub rooms-fit : sumOf (Inside (y .id)) xs ≤ y .tonnage
 
-pub record Sound (L : ℕ) (xs : List Space) : Type 0 where
+pub record Sound (L : Hundredths) (xs : List Space) : Type 0 where
   pub member : (y : Space) → y ∈ xs → Member xs y
   -- "Lengths of all U add up to no more than the tonnage length"
-  pub lengths-fit : sumOf Lengths xs ≤ L
+  pub lengths-fit : sumOf Lengths xs ≤ L.0
   pub at-most-200 : length xs ≤ 200

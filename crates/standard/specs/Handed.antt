@@ -5,6 +5,7 @@ use mathlib.Core.List.{[], _∷_}
 use mathlib.Core.Option.{Option, none, some}
 use lib.Dec.{leb, ltb}
 use Rattle.measure.specs.Refusals.{firstOf}
+use Rattle.measure.specs.declared.units.Hundredths.{Hundredths}
 use Rattle.spaces.specs.Space.{isUnderDeck, isRoom, isPlain}
 use Rattle.spaces.specs.Row.{isSome}
 use Rattle.spaces.specs.declared.space.Space.{Space}
@@ -20,12 +21,12 @@ searched Nothing = none
 searched (At z) = some z
 
 -- 9, by the enclosing space and what the entry is added to
-abbrev pub overfullBy : ℕ → Space → Option Space → ℕ → Bool
-overfullBy L x none beside = isUnderDeck x && ltb L (beside + x .length)
+abbrev pub overfullBy : Hundredths → Space → Option Space → ℕ → Bool
+overfullBy L x none beside = isUnderDeck x && ltb L.0 (beside + x .length .0)
 overfullBy L x (some z) beside = ltb (z .tonnage) (beside + x .tonnage)
 
 -- the tests of entry in the table's order, by the enclosing space and what else is around
-unfoldable pub judgedNumber : ℕ → Space → Option Space → Around → Bool → ℕ
+unfoldable pub judgedNumber : Hundredths → Space → Option Space → Around → Bool → ℕ
 judgedNumber L x o a full =
     firstOf
     ((ltb (x .id) 1 || ltb 9999 (x .id) || a .taken, 4)

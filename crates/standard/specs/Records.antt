@@ -8,6 +8,7 @@ use lib.ListN.{length}
 use Rattle.measure.specs.Kinds.{kindOf}
 use Rattle.measure.specs.Ranges.{within, lengths}
 use Rattle.measure.specs.Refusals.{firstOf}
+use Rattle.measure.specs.declared.units.Hundredths.{Hundredths}
 use Rattle.spaces.specs.Space.{isRoom}
 use Rattle.standard.specs.Rules.{entryTests}
 use Rattle.spaces.specs.declared.space.Space.{Space}
@@ -18,15 +19,15 @@ use Rattle.standard.specs.declared.records.RefusedRecord.{RefusedRecord}
 abbrev pub misrecorded : Space → Bool
 misrecorded x =
     ltb 100000000 (x .tonnage)
-    || not (within (lengths (kindOf (x .kind))) (x .length))
+    || not (within (lengths (kindOf (x .kind))) (x .length .0))
     || (not (isRoom x) && not (eqb (x .within) 0))
 
 -- the number with which a record is refused after the spaces xs, where L is the tonnage length
-unfoldable pub recordNumber : ℕ → List Space → Space → ℕ
+unfoldable pub recordNumber : Hundredths → List Space → Space → ℕ
 recordNumber L xs x = firstOf ((misrecorded x, 2) ∷ entryTests L xs x)
 
 -- the first refused of some records after the spaces xs, with its position from 1; 0 and 0 where none is
-abbrev pub firstRefused : ℕ → List Space → List Space → RefusedRecord
+abbrev pub firstRefused : Hundredths → List Space → List Space → RefusedRecord
 firstRefused L xs [] = record { number = 0; position = 0 }
 firstRefused L xs (x ∷ rest) =
     cond (eqb (recordNumber L xs x) 0)

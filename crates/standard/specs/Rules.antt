@@ -7,6 +7,7 @@ use mathlib.Core.Option.{Option, none, some}
 use lib.Dec.{eqb, ltb, leb}
 use lib.ListN.{length}
 use Rattle.measure.specs.Refusals.{firstOf}
+use Rattle.measure.specs.declared.units.Hundredths.{Hundredths}
 use Rattle.spaces.specs.Space.{isUnderDeck, isHatchway, isRoom, isPlain}
 use Rattle.spaces.specs.Row.{find, stands, sumOf}
 use Rattle.spaces.specs.Enclosure.{enclosing, above, level, allPlain, below}
@@ -43,14 +44,14 @@ abbrev pub passesEnclosing : List Space → Space → Option Space → Bool
 passesEnclosing xs x none = false
 passesEnclosing xs x (some z) = ltb (z .tonnage) (sumOf (Inside (x .within)) xs + x .tonnage)
 
-abbrev pub overfull : ℕ → List Space → Space → Bool
-overfull L xs x = passesEnclosing xs x (enclosing xs x) || (isUnderDeck x && ltb L (sumOf Lengths xs + x .length))
+abbrev pub overfull : Hundredths → List Space → Space → Bool
+overfull L xs x = passesEnclosing xs x (enclosing xs x) || (isUnderDeck x && ltb L.0 (sumOf Lengths xs + x .length .0))
 
 -- 10: "entry where 200 spaces stand"
 abbrev pub noPlace : List Space → Bool
 noPlace xs = leb 200 (length xs)
 
-abbrev pub entryTests : ℕ → List Space → Space → List (Bool × ℕ)
+abbrev pub entryTests : Hundredths → List Space → Space → List (Bool × ℕ)
 entryTests L xs x =
     (idRefused xs x, 4)
     ∷ (unhoused xs x, 5)
@@ -61,7 +62,7 @@ entryTests L xs x =
     ∷ (noPlace xs, 10)
     ∷ []
 
-unfoldable pub entryNumber : ℕ → List Space → Space → ℕ
+unfoldable pub entryNumber : Hundredths → List Space → Space → ℕ
 entryNumber L xs x = firstOf (entryTests L xs x)
 
 -- 11: "withdrawal of a space that encloses a room"

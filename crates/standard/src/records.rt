@@ -35,7 +35,7 @@ fn misrecorded(x: Space) -> bool
     if GREATEST_TONNAGE < x.tonnage {
         return true;
     }
-    if !length_fits(kind_of(x.kind), Hundredths(x.length)) {
+    if !length_fits(kind_of(x.kind), x.length) {
         return true;
     }
     if x.kind == ROOM {
@@ -46,7 +46,7 @@ fn misrecorded(x: Space) -> bool
 
 // The number with which a record is refused, or 0, by its enclosing space and what else is around it. Those before it are fewer
 // than 200.
-fn record_number(x: Space, tonnage_length: u32, found: Found, around: Around) -> u8
+fn record_number(x: Space, tonnage_length: Hundredths, found: Found, around: Around) -> u8
     ensures { λ r. ⌜ r ≡ cond (misrecordedOf x) 2 (judgedNumber «tonnage_length» x (searched found) around false) ⌝ }
 {
     if misrecorded(x) {
@@ -56,7 +56,11 @@ fn record_number(x: Space, tonnage_length: u32, found: Found, around: Around) ->
 }
 
 // The first of the records that is refused; a count over 200 is all of them.
-pub fn first_refused(records: [Space; 200], count: usize, tonnage_length: u32) -> RefusedRecord
+pub fn first_refused(
+    records: [Space; 200],
+    count: usize,
+    tonnage_length: Hundredths,
+) -> RefusedRecord
     ensures { λ r. ⌜ r ≡ firstRefused «tonnage_length» [] (take count records) ⌝ }
 {
     let n = used(count);

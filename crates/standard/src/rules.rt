@@ -9,6 +9,7 @@ use crate::refusals::OFF_TWICE;
 use crate::refusals::OVERFULL;
 use crate::refusals::TOO_DEEP;
 use crate::standings::may_take;
+use measure::units::Hundredths;
 use spaces::around::Around;
 use spaces::around::around_space;
 use spaces::enclosure::LEVELS;
@@ -90,14 +91,14 @@ fn off_twice(x: Space, plain_above: bool) -> bool
 }
 
 // 9: rooms would pass the enclosing tonnage, or U lengths the tonnage length.
-fn overfull(x: Space, tonnage_length: u32, found: Found, beside: u64) -> bool
+fn overfull(x: Space, tonnage_length: Hundredths, found: Found, beside: u64) -> bool
     ensures { λ r. ⌜ r ≡ overfullBy «tonnage_length» x (searched found) beside ⌝ }
 {
     match found {
         Found::At(z) => passes(beside, x.tonnage, z.tonnage),
         Found::Nothing => {
             if x.kind == UNDER_DECK {
-                return passes(beside, x.length, tonnage_length);
+                return passes(beside, x.length.0, tonnage_length.0);
             }
             false
         }
@@ -116,7 +117,13 @@ fn passes(sum: u64, more: u32, limit: u32) -> bool
 }
 
 // The number with which an entry of x is refused, or 0, by its enclosing space, what else is around it, and whether 200 spaces stand.
-pub(crate) fn judged(x: Space, tonnage_length: u32, found: Found, around: Around, full: bool) -> u8
+pub(crate) fn judged(
+    x: Space,
+    tonnage_length: Hundredths,
+    found: Found,
+    around: Around,
+    full: bool,
+) -> u8
     ensures { λ r. ⌜ r ≡ judgedNumber «tonnage_length» x (searched found) around full ⌝ }
 {
     if id_refused(x, around.taken) {
@@ -154,7 +161,7 @@ pub(crate) fn found_if(enclosed: bool, z: Space) -> Found
 }
 
 // The number with which an entry of x is refused, or 0.
-pub fn entry_number(spaces: [Space; 200], count: usize, tonnage_length: u32, x: Space) -> u8
+pub fn entry_number(spaces: [Space; 200], count: usize, tonnage_length: Hundredths, x: Space) -> u8
     ensures { λ r. ⌜ r ≡ entryNumber «tonnage_length» (take count spaces) x ⌝ }
 {
     let n = used(count);

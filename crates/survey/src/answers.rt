@@ -64,7 +64,7 @@ pub fn read(reading: Reading) -> Sheet {
 pub fn spaces(sheet: Sheet) -> Sheet {
     print(b"0 ");
     print_number(sheet.is_open() as u64, b" ");
-    print_number(sheet.tonnage_length() as u64, b" ");
+    print_number(sheet.tonnage_length().0 as u64, b" ");
     print_number(sheet.standing_count() as u64, b"");
     print_spaces(sheet);
     print(b"\n");
@@ -89,7 +89,7 @@ fn print_space(space: Space) {
     print_number(space.kind as u64, b":");
     print_number(space.standing as u64, b":");
     print_number(space.tonnage as u64, b":");
-    print_number(space.length as u64, b"");
+    print_number(space.length.0 as u64, b"");
 }
 
 // Bytes as hex digits, some thousands at a time; `-` where there are none.

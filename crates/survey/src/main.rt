@@ -5,6 +5,7 @@ mod answers;
 
 use dayfile::Reading;
 use libc::STDIN_FILENO;
+use measure::units::Hundredths;
 use script::calls;
 use script::calls::Line;
 use script::hex;
@@ -77,7 +78,7 @@ fn answer_line(sheet: Sheet, line: &[u8]) -> Sheet {
 // Makes a call with the words of its line.
 fn make(sheet: Sheet, line: &[u8], call: usize) -> Sheet {
     match call {
-        OPEN => answers::changed(Sheet::open(words::measure_in(words::word(line, 1)))),
+        OPEN => answers::changed(Sheet::open(Hundredths(words::measure_in(words::word(line, 1))))),
         ENTER => answers::changed(enter(sheet, line)),
         WITHDRAW => answers::changed(sheet.withdraw(words::id_in(words::word(line, 1)))),
         MARK => answers::changed(mark(sheet, line)),
@@ -147,6 +148,6 @@ fn entry(line: &[u8]) -> Entry {
         within,
         kind,
         standing,
-        length,
+        length: Hundredths(length),
     }
 }

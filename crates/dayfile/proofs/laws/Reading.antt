@@ -7,6 +7,7 @@ use native.Mathlib.Omega.{arith}
 use borrow.Author.Tests.{not-false, lt-ltb, le-ltb, ltb-false, eq-eqb, ne-eqb, eqb-true, eqb-false}
 use lib.Dec.{eqb, ltb, lit<}
 use lib.ListN.{length, take, drop, getD}
+use Rattle.measure.specs.declared.units.Hundredths.{Hundredths}
 use Rattle.measure.specs.Kinds.{kindOf}
 use Rattle.measure.specs.Ranges.{within, tonnageLengths}
 use Rattle.measure.specs.Refusals.{firstOf}
@@ -71,18 +72,18 @@ framed file e =
 -- ---- 17
 
 -- no entry takes an empty record
-empty-refused : (L : ℕ) (before : List Space) → recordNumber L before emptySpace ≡ 2
+empty-refused : (L : Hundredths) (before : List Space) → recordNumber L before emptySpace ≡ 2
 unfolding recordNumber within kindOf
 empty-refused L before = refl
 
 -- the sheet's own judging of the records as they are handed to it finds the first that is faulty
-pub record Judged (L : ℕ) (before : List Space) (rest : List (List ℕ)) : Type 0 where
+pub record Judged (L : Hundredths) (before : List Space) (rest : List (List ℕ)) : Type 0 where
   pub position-is : firstRefused L before (eachReadAs rest) .position ≡ firstFaulty L before rest
   pub none-refused : firstFaulty L before rest ≡ 0 → firstRefused L before (eachReadAs rest) .number ≡ 0
   pub none-faulty : firstRefused L before (eachReadAs rest) .number ≡ 0 → firstFaulty L before rest ≡ 0
   pub all-read : firstFaulty L before rest ≡ 0 → eachReadAs rest ≡ spacesOf rest
 
-module _ (L : ℕ) (before : List Space) (numbers : List ℕ) (rest : List (List ℕ)) where
+module _ (L : Hundredths) (before : List Space) (numbers : List ℕ) (rest : List (List ℕ)) where
   -- a faulty record ends it
   ends : (x : Space) → readAs numbers ≡ x → (recordNumber L before x ≡ 0 → ⊥) → faulty L before numbers ≡ true
       → Judged L before (numbers ∷ rest)
@@ -124,7 +125,7 @@ module _ (L : ℕ) (before : List Space) (numbers : List ℕ) (rest : List (List
       by true q = goes-on (rw e) (eqb-true _ 0 q) (rw (e, q)) (others (before ++ (spaceOf numbers ∷ [])))
       by false q = ends (spaceOf numbers) (rw e) (eqb-false _ 0 q) (rw (e, q))
 
-pub judged : (L : ℕ) (before : List Space) (rest : List (List ℕ)) → Judged L before rest
+pub judged : (L : Hundredths) (before : List Space) (rest : List (List ℕ)) → Judged L before rest
 judged L before [] = record { position-is = refl; none-refused = λ z. refl; none-faulty = λ z. refl; all-read = λ z. refl }
 judged L before (numbers ∷ rest) = by (λ first. judged L first rest) (fitting recordFields numbers) refl
   where
@@ -133,11 +134,11 @@ judged L before (numbers ∷ rest) = by (λ first. judged L first rest) (fitting
     by others true e = in-range L before numbers rest e others
 
 -- what the sheet's own `resumed` answers of a file's records
-pub record Resumes (L : ℕ) (all : List (List ℕ)) : Type 0 where
+pub record Resumes (L : Hundredths) (all : List (List ℕ)) : Type 0 where
   pub position-is : resumed L (eachReadAs all) .position ≡ firstFaulty L [] all
   pub sheet-is : firstFaulty L [] all ≡ 0 → resumed L (eachReadAs all) .sheet ≡ withStanding (spacesOf all) (blank true L)
 
-pub resumes : (L : ℕ) (all : List (List ℕ)) → within tonnageLengths L ≡ true → Resumes L all
+pub resumes : (L : Hundredths) (all : List (List ℕ)) → within tonnageLengths L.0 ≡ true → Resumes L all
 unfolding resumed
 resumes L all fits = by (eqb (firstRefused L [] (eachReadAs all) .number) 0) refl
   where

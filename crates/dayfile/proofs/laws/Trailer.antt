@@ -33,7 +33,7 @@ module _ (numbers : List ℕ) (right : trailerRight numbers ≡ true) where
 
 -- the tonnage length of a right trailer at the front of some bytes is one that a sheet may have
 pub tonnage-length-fits : (bytes : List ℕ) → trailerRight (trailerNumbers bytes) ≡ true
-    → within tonnageLengths (trailerOf (trailerNumbers bytes) .«tonnage_length») ≡ true
+    → within tonnageLengths (trailerOf (trailerNumbers bytes) .«tonnage_length» .0) ≡ true
 unfolding within
 tonnage-length-fits bytes right =
     let v = trailerNumbers bytes in

@@ -6,6 +6,7 @@ use native.Mathlib.Omega.{arith}
 use borrow.Author.Tests.{lt-ltb, le-ltb, ne-eqb}
 use lib.ListN.{length, take, drop, length-append}
 use lib.Seq.{sets, sets-eq, length-take-le}
+use Rattle.measure.specs.declared.units.Hundredths.{Hundredths}
 use Rattle.standard.specs.Gross.{gross, net}
 use Rattle.spaces.specs.declared.space.Space.{Space}
 use Rattle.sheet.specs.Sheet.{standing}
@@ -31,9 +32,9 @@ module _ (s : Sheet) (justified : ℕ) where
       length-append (records (standing s)) (trailerBytes (trailerFor s justified))
       ∙ omega (arith, length-records (standing s), length-take-le (s .count) (s .spaces) h, length-trailer (trailerFor s justified))
 
-  pub trailer-is : (n l g m : ℕ) → n ≡ s .count → l ≡ s .length → g ≡ gross (standing s) → m ≡ net (standing s)
+  pub trailer-is : (n g m : ℕ) (l : Hundredths) → n ≡ s .count → l ≡ s .length → g ≡ gross (standing s) → m ≡ net (standing s)
       → record { count = n; justified = justified; «tonnage_length» = l; gross = g; net = m } ≡ trailerFor s justified
-  trailer-is n l g m e₁ e₂ e₃ e₄ = rw (e₁, e₂, e₃, e₄)
+  trailer-is n g m l e₁ e₂ e₃ e₄ = rw (e₁, e₂, e₃, e₄)
 
   -- the records of its places and its trailer
   pub bytes-are : (n : ℕ) (row : List Space) (t : Trailer) → n ≡ s .count → row ≡ s .spaces → t ≡ trailerFor s justified

@@ -21,7 +21,7 @@ use Rattle.listing.specs.Handed.{Blank}
 
 -- what a sheet that can be reported hands out is what its text is made of
 pub text-handed-out : (s : Sheet) (justified : ℕ) → reported s justified .number ≡ 0
-    → figureLine (ascii "LENGTH") (lengthOf s)
+    → figureLine (ascii "LENGTH") (lengthOf s .0)
     ++ spaceLines (take (standingCount s) (placesOf s))
     ++ figureLine (ascii "GROSS") (reported s justified .gross)
     ++ figureLine (ascii "NET") (reported s justified .net)

@@ -20,7 +20,7 @@ abbrev pub from-14 : Sheet → ℕ → List (Bool × ℕ)
 from-14 s j = (unjustified (standing s) && eqb j 0, 14) ∷ []
 
 abbrev pub from-13 : Sheet → ℕ → List (Bool × ℕ)
-from-13 s j = (not (eqb (sumOf Lengths (standing s)) (s .length)), 13) ∷ from-14 s j
+from-13 s j = (not (eqb (sumOf Lengths (standing s)) (s .length .0)), 13) ∷ from-14 s j
 
 abbrev pub from-2 : Sheet → ℕ → List (Bool × ℕ)
 from-2 s j = (ltb 1 j, 2) ∷ from-13 s j

@@ -10,6 +10,7 @@ use borrow.Author.Tests.{eqb-true, ne-eqb, ltb-true, lt-ltb, le-ltb, leb-true, l
 use lib.Dec.{leb, ltb}
 use lib.ListN.{length, take, getD, length-take}
 use lib.Seq.{take-all, getD-take}
+use Rattle.measure.specs.declared.units.Hundredths.{Hundredths}
 use Rattle.measure.specs.Refusals.{firstOf}
 use Rattle.spaces.specs.Space.{emptySpace, isUnderDeck, isRoom, isPlain}
 use Rattle.spaces.specs.Row.{isSome, sumOf}
@@ -61,7 +62,7 @@ unfolding aroundOf
 beside-others xs x e =
     by-test (ltb (enclosingPlace xs x) (length xs)) (λ t. none-not-some e (rw t at (sym (enclosed-is xs x)))) (λ f. rw f)
 
-module _ (L : ℕ) (xs : List Space) (x : Space) where
+module _ (L : Hundredths) (xs : List Space) (x : Space) where
   same-unhoused : (isRoom x && not (isSome (enclosing xs x))) ≡ unhoused xs x
   same-unhoused = by-test (isRoom x) (λ r. rw r) (λ r. rw r)
 

@@ -9,6 +9,7 @@ use native.Mathlib.Omega.{arith}
 use borrow.Author.Tests.{eq-eqb, ne-eqb, lt-leb}
 use lib.ListN.{length, take, drop, getD, drop-of-length-le}
 use lib.Seq.{length-take-le, drop-cons, take-suc}
+use Rattle.measure.specs.declared.units.Hundredths.{Hundredths}
 use Rattle.spaces.specs.Space.{emptySpace}
 use Rattle.spaces.specs.Around.{aroundOf}
 use Rattle.spaces.specs.declared.space.Space.{Space}
@@ -19,7 +20,7 @@ use Rattle.standard.specs.Records.{misrecorded, recordNumber, firstRefus
 use Rattle.standard.specs.Handed.{judgedNumber}
 use Rattle.standard.proofs.laws.Judged.{enclosedAt, judged-is}
 
-module _ (L : ℕ) (xs : List Space) (i : ℕ) where
+module _ (L : Hundredths) (xs : List Space) (i : ℕ) where
   step : i < length xs → drop i xs ≡ getD xs i emptySpace ∷ drop (i + 1) xs
   step h = drop-cons xs i emptySpace h ∙ ap (λ (k : ℕ). getD xs i emptySpace ∷ drop k xs) (sym (add-one i))
 
@@ -43,7 +44,7 @@ module _ (L : ℕ) (xs : List Space) (i : ℕ) where
 
 -- ---- the number of a record after fewer than 200
 
-pub record-number-is : (L : ℕ) (xs : List Space) (x : Space) {o : Option Space} {a : Around} → a ≡ aroundOf xs x → o ≡ enclosedAt (a .home) xs
+pub record-number-is : (L : Hundredths) (xs : List Space) (x : Space) {o : Option Space} {a : Around} → a ≡ aroundOf xs x → o ≡ enclosedAt (a .home) xs
     → length xs < 200
     → cond (misrecorded x) 2 (judgedNumber L x o a false) ≡ recordNumber L xs x
 unfolding recordNumber entryNumber

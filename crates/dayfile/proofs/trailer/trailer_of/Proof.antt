@@ -21,11 +21,11 @@ array-read-t13 c = search needs
 cast-t14 : tie.Need-cast-t14
 cast-t14 c = omega (arith, within-trailer (c .args .t1) 4 (lit< tt) (c .pre))
 
-array-read-t17 : tie.Need-array-read-t17
-array-read-t17 c = search needs
+array-read-t18 : tie.Need-array-read-t18
+array-read-t18 c = search needs
 
-array-read-t20 : tie.Need-array-read-t20
-array-read-t20 c = search needs
+array-read-t21 : tie.Need-array-read-t21
+array-read-t21 c = search needs
 
 returns : tie.Need-returns
 returns c = search needs
@@ -39,6 +39,6 @@ trailer-of-spec =
     cast-t10
     array-read-t13
     cast-t14
-    array-read-t17
-    array-read-t20
+    array-read-t18
+    array-read-t21
     returns)

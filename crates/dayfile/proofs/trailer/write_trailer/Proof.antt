@@ -36,7 +36,7 @@ returns c =
     let t = a .t in
     c .before .before .put-fields .ensures
     ∙ ap
-    (λ (distance : ℕ). sets (a .buf .now) 0 (encoded (widths trailerFields) (distance ∷ t .count ∷ t .justified ∷ 0 ∷ t .«tonnage_length» ∷ t .gross ∷ t .net ∷ [])))
+    (λ (distance : ℕ). sets (a .buf .now) 0 (encoded (widths trailerFields) (distance ∷ t .count ∷ t .justified ∷ 0 ∷ t .«tonnage_length» .0 ∷ t .gross ∷ t .net ∷ [])))
     (c .before .before .before .before .before .before .before .before .sheet-size .ensures)
 
 pub write-trailer-spec : {M : Type 1} → statement M

@@ -134,7 +134,7 @@ returns-4 c =
     (omega (arith, sym (ap length rows) ∙ whole, usable-counts s (g .is-usable) .places))
     count
     rows
-    (bytes-are s (a .justified) n row _ count rows (trailer-is s (a .justified) n l (r .gross) (r .net) count lengths (g .gross-is) (g .net-is)))
+    (bytes-are s (a .justified) n row _ count rows (trailer-is s (a .justified) n (r .gross) (r .net) l count lengths (g .gross-is) (g .net-is)))
     (c .before .before .before .before .before .before .before .before .before .before .before .before .sheet-size .ensures)
     (c .before .before .before .before .before .before .before .before .before .before .before .if2 .left)
     (c .before .before .before .before .before .before .before .before .before .before .if3 .left)

@@ -30,31 +30,31 @@ standing-count-requires c κs = search needs
 
 put-spaces-requires : tie.Need-put-spaces-requires
 put-spaces-requires c κs =
-    let count = standing-count-le (c .before .before .before .before .before .before .before .before .before .before .before .args .sheet) in
+    let count = standing-count-le (c .before .before .before .before .before .before .before .before .before .before .before .before .args .sheet) in
     (omega (arith, count), omega (arith, count))
 
 slice-aggregate-put-figure-2 : tie.Need-slice-aggregate-put-figure-2
 slice-aggregate-put-figure-2 c = search needs
 
 put-figure-requires-2 : tie.Need-put-figure-requires-2
-put-figure-requires-2 c κs = (search needs, omega (arith, standing-count-le (c .before .before .before .before .before .before .before .before .before .before .before .before .before .before .before .before .args .sheet)))
+put-figure-requires-2 c κs = (search needs, omega (arith, standing-count-le (c .before .before .before .before .before .before .before .before .before .before .before .before .before .before .before .before .before .args .sheet)))
 
 slice-aggregate-put-figure-3 : tie.Need-slice-aggregate-put-figure-3
 slice-aggregate-put-figure-3 c = search needs
 
 put-figure-requires-3 : tie.Need-put-figure-requires-3
-put-figure-requires-3 c κs = (search needs, omega (arith, standing-count-le (c .before .before .before .before .before .before .before .before .before .before .before .before .before .before .before .before .before .before .before .before .before .args .sheet)))
+put-figure-requires-3 c κs = (search needs, omega (arith, standing-count-le (c .before .before .before .before .before .before .before .before .before .before .before .before .before .before .before .before .before .before .before .before .before .before .args .sheet)))
 
 same-length : tie.Need-same-length
 same-length c = search needs
 
 returns : tie.Need-returns
 returns c =
-    let s = c .before .before .before .before .before .before .before .before .before .before .before .before .before .before .before .before .before .before .before .before .before .before .before .before in
-    let length' = c .before .before .before .before .before .before .before .before .before .before .before .before .before .before .before .before .before .before .before .tonnage-length .ensures in
+    let s = c .before .before .before .before .before .before .before .before .before .before .before .before .before .before .before .before .before .before .before .before .before .before .before .before .before in
+    let length' = c .before .before .before .before .before .before .before .before .before .before .before .before .before .before .before .before .before .before .before .before .tonnage-length .ensures in
     let count = c .before .before .before .before .before .before .before .before .before .before .before .before .before .standing-count .ensures in
     let places = c .before .before .before .before .before .before .before .before .before .before .before .before .before .before .places .ensures in
-    let report = c .before .before .before .before .before .before .before .before .before .before .before .before .before .before .before .before .before .before .before .before .before .before .report .ensures in
+    let report = c .before .before .before .before .before .before .before .before .before .before .before .before .before .before .before .before .before .before .before .before .before .before .before .report .ensures in
     let text = text-handed-out (s .args .sheet) (s .args .justified) (s .pre .1) in
     let first = c .before .before .before .before .before .before .before .before .before .before .before .before .before .before .before .before .before .before .put-figure .ensures in
     let lines = c .before .before .before .before .before .before .before .before .before .before .before .before .put-spaces .ensures in

@@ -1,6 +1,5 @@
 -- `answers::print_spaces` meets its contract: it ends at the last standing space, and no more stand than there are places.
 use Prim.Native.Nat.{_-_}
-use native.Mathlib.Omega.{arith}
 use Rattle.sheet.proofs.laws.Sheet.{standing-count-le}
 use borrow.Author.Needs.{needs}
 use Rattle.survey.proofs.answers.print_spaces.Statement.{statement}

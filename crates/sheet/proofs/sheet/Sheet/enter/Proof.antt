@@ -108,14 +108,14 @@ measure-offsets-requires c κs = search needs
 returns-3 : tie.Need-returns-3
 unfolding entered
 returns-3 c =
-    let s = c .before .before .before .before .before .before .before .before .before in
+    let s = c .before .before .before .before .before .before .before .before .before .before .before in
     let sh = s .args .self in
     let e = s .args .entry in
     let q = measuredFor sh e (s .args .heights .now) (s .args .breadths .now) in
     let d = c .before .before in
     by-offsets sh e q
-    (holds (d .before .before .before .before .usable .ensures .usable-is) (d .before .before .before .if1 .left))
-    (d .before .if2 .left)
+    (holds (d .before .before .before .before .before .before .usable .ensures .usable-is) (d .before .before .before .before .before .if1 .left))
+    (d .before .before .before .if2 .left)
     (d .measure-offsets .result)
     (d .measure-offsets .ensures)
     (c .if3 .taken)
@@ -127,7 +127,7 @@ entry-number-requires : tie.Need-entry-number-requires
 entry-number-requires c κs = search needs
 
 judged : (n : tie.After-entry-number)
-    → (let s = n .before .before .before .before .before .before .before .before .before .before .before .before in
+    → (let s = n .before .before .before .before .before .before .before .before .before .before .before .before .before .before in
     let sh = s .args .self in
     let q = measuredFor sh (s .args .entry) (s .args .heights .now) (s .args .breadths .now) in
     Judged sh (s .args .entry) q (n .before .before .space .result) (n .entry-number .result))
@@ -135,8 +135,8 @@ judged n =
     let d = n .before .before in
     let o = d .before .before .before in
     record {
-      on = holds (o .before .before .before .before .usable .ensures .usable-is) (o .before .before .before .if1 .left);
-      three = o .before .if2 .left;
+      on = holds (o .before .before .before .before .before .before .usable .ensures .usable-is) (o .before .before .before .before .before .if1 .left);
+      three = o .before .before .before .if2 .left;
       answer = o .measure-offsets .result;
       answer-is = o .measure-offsets .ensures;
       none = d .before .if3 .left;
@@ -148,22 +148,22 @@ returns-4 : tie.Need-returns-4
 unfolding entered
 returns-4 c =
     let n = c .before in
-    let s = n .before .before .before .before .before .before .before .before .before .before .before .before in
+    let s = n .before .before .before .before .before .before .before .before .before .before .before .before .before .before in
     let sh = s .args .self in
     let q = measuredFor sh (s .args .entry) (s .args .heights .now) (s .args .breadths .now) in
     by-record sh (s .args .entry) q (n .before .before .space .result) (n .entry-number .result) (judged n) (c .if4 .taken)
 
 made-requires : tie.Need-made-requires
-made-requires c κs = places (c .before .before .before .before .before .before .before .before .before .before .usable .ensures) (not-false _ (c .before .before .before .before .before .before .before .before .before .if1 .left))
+made-requires c κs = places (c .before .before .before .before .before .before .before .before .before .before .before .before .usable .ensures) (not-false _ (c .before .before .before .before .before .before .before .before .before .before .before .if1 .left))
 
 noted-requires : tie.Need-noted-requires
-noted-requires c κs = rw (c .made .ensures) (fitted-open-places _ _ (open-places (c .before .before .before .before .before .before .before .before .before .before .before .usable .ensures) (not-false _ (c .before .before .before .before .before .before .before .before .before .before .if1 .left))))
+noted-requires c κs = rw (c .made .ensures) (fitted-open-places _ _ (open-places (c .before .before .before .before .before .before .before .before .before .before .before .before .before .usable .ensures) (not-false _ (c .before .before .before .before .before .before .before .before .before .before .before .before .if1 .left))))
 
 returns-5 : tie.Need-returns-5
 unfolding entered
 returns-5 c =
     let n = c .before .before .before in
-    let s = n .before .before .before .before .before .before .before .before .before .before .before .before in
+    let s = n .before .before .before .before .before .before .before .before .before .before .before .before .before .before in
     let sh = s .args .self in
     let q = measuredFor sh (s .args .entry) (s .args .heights .now) (s .args .breadths .now) in
     accepted sh (s .args .entry) q (n .before .before .space .result) (n .entry-number .result) (judged n)

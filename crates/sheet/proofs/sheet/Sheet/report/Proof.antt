@@ -24,9 +24,9 @@ use Rattle.sheet.proofs.sheet.Sheet.report.Tie as tie
 past-2 : (s : Sheet) (j : ℕ) → usable s ≡ true → j ≤ 1 → firstOf ((not (usable s), 1) ∷ from-2 s j) ≡ firstOf (from-13 s j)
 past-2 s j on one = is-open s (from-2 s j) on ∙ passes (ltb 1 j) 2 (from-13 s j) (le-ltb 1 j one)
 
-past-13 : (s : Sheet) (j : ℕ) → usable s ≡ true → j ≤ 1 → sumOf Lengths (standing s) ≡ s .length → firstOf ((not (usable s), 1) ∷ from-2 s j) ≡ firstOf (from-14 s j)
+past-13 : (s : Sheet) (j : ℕ) → usable s ≡ true → j ≤ 1 → sumOf Lengths (standing s) ≡ s .length .0 → firstOf ((not (usable s), 1) ∷ from-2 s j) ≡ firstOf (from-14 s j)
 past-13 s j on one full =
-    past-2 s j on one ∙ passes (not (eqb (sumOf Lengths (standing s)) (s .length))) 13 (from-14 s j) (ap not (eq-eqb (sumOf Lengths (standing s)) (s .length) full))
+    past-2 s j on one ∙ passes (not (eqb (sumOf Lengths (standing s)) (s .length .0))) 13 (from-14 s j) (ap not (eq-eqb (sumOf Lengths (standing s)) (s .length .0) full))
 
 usable-requires : tie.Need-usable-requires
 usable-requires c κs = search needs
@@ -70,14 +70,14 @@ module _ (d : tie.After-reckon) where
   lengths-are : d .reckon .result .lengths ≡ sumOf Lengths (standing sh)
   lengths-are = ap (λ (r : Reckoning). r .lengths) (d .reckon .ensures)
 
-  short : (d .reckon .result .lengths ≡ sh .length → ⊥) → reportNumber sh j ≡ 13
+  short : (d .reckon .result .lengths ≡ sh .length .0 → ⊥) → reportNumber sh j ≡ 13
   short differ =
       past-2 sh j on (d .before .before .if2 .left)
-      ∙ applies (not (eqb (sumOf Lengths (standing sh)) (sh .length))) 13 (from-14 sh j)
-      (ap not (ne-eqb (sumOf Lengths (standing sh)) (sh .length) (λ same. differ (lengths-are ∙ same))))
+      ∙ applies (not (eqb (sumOf Lengths (standing sh)) (sh .length .0))) 13 (from-14 sh j)
+      (ap not (ne-eqb (sumOf Lengths (standing sh)) (sh .length .0) (λ same. differ (lengths-are ∙ same))))
 
   -- and then the test of 14 decides
-  module _ (full : d .reckon .result .lengths ≡ sh .length) (t : Bool) (needed : t ≡ (d .reckon .result .unjustified && eqb j 0)) where
+  module _ (full : d .reckon .result .lengths ≡ sh .length .0) (t : Bool) (needed : t ≡ (d .reckon .result .unjustified && eqb j 0)) where
     left : reportNumber sh j ≡ firstOf ((t, 14) ∷ [])
     left =
         past-13 sh j on (d .before .before .if2 .left) (sym lengths-are ∙ full)

@@ -10,7 +10,7 @@ usable-requires c κs = search needs
 
 returns : tie.Need-returns
 unfolding lengthOf
-returns c = simp (sym (c .before .usable .ensures .usable-is) ∙ c .if1 .taken)
+returns c = simp (sym (c .before .before .usable .ensures .usable-is) ∙ c .before .if1 .taken)
 
 returns-2 : tie.Need-returns-2
 unfolding lengthOf

@@ -40,7 +40,7 @@ add-next c = search needs
 returns-2 : tie.Need-returns-2
 returns-2 c =
     let s = c .before .before .before .before in
-    let l = c .before .least in
+    let l = c .before .lesser in
     let r = c .with-place in
     put-in (s .args .self) (s .pre) (s .args .p) (s .args .x) (c .before .before .before .if1 .left) (l .result) (l .ensures) (r .result) (r .ensures)
 
