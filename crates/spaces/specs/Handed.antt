@@ -14,6 +14,7 @@ use Rattle.spaces.specs.declared.sums.Amount.{Amount}
 use Rattle.spaces.specs.declared.sums.Amount.the-variants.{Lengths, Hull, Hatchways, Exempt, Ballast, Deducted}
 use Rattle.spaces.specs.declared.sums.Totals.{Totals}
 use Rattle.spaces.specs.declared.enclosure.Above.{Above}
+use Rattle.spaces.specs.declared.index.Rows.{Rows}
 
 -- ---- sums
 
@@ -68,19 +69,41 @@ column f (x ∷ xs) = f x ∷ column f xs
 abbrev pub idsOf : List Space → List ℕ
 idsOf xs = column (λ (x : Space). x .id) xs
 
+abbrev pub withinsOf : List Space → List ℕ
+withinsOf xs = column (λ (x : Space). x .within) xs
+
+abbrev pub kindsOf : List Space → List ℕ
+kindsOf xs = column (λ (x : Space). x .kind) xs
+
 abbrev pub standingsOf : List Space → List ℕ
 standingsOf xs = column (λ (x : Space). x .standing) xs
+
+pub record RowsOf (spaces : List Space) (rows : Rows) : Type 0 where
+  pub places : length (rows .ids) ≡ 200
+  pub ids : rows .ids ≡ idsOf spaces
+  pub withins : rows .withins ≡ withinsOf spaces
+  pub kinds : rows .kinds ≡ kindsOf spaces
+  pub standings : rows .standings ≡ standingsOf spaces
+
+-- the place of an id among ids, from 0; as many as there are where none is it
+abbrev pub placeIn : ℕ → List ℕ → ℕ
+placeIn id [] = 0
+placeIn id (x ∷ xs) = cond (eqb x id) 0 (suc (placeIn id xs))
+
+-- what a walk meets, in such rows, from a space of a kind and an enclosing id upward: at each place the number of each row
+unfoldable pub walkedBy : (left n : ℕ) (ids withins kinds standings : List ℕ) (kind within : ℕ) → Above
+walkedBy zero n ids withins kinds standings kind within = walked []
+walkedBy (suc left) n ids withins kinds standings kind within =
+    let at = placeIn within (take n ids) in
+    cond (eqb kind 5 && ltb at n)
+    (pastOf (getD standings at 0) (walkedBy left n ids withins kinds standings (getD kinds at 0) (getD withins at 0)))
+    (walked [])
 
 -- the places of the first n spaces' enclosing spaces, those at which their ids stand first, and all standings
 pub record Charted (spaces : List Space) (n : ℕ) (homes owns standings : List ℕ) : Type 0 where
   pub home-of : EnclosingPlaces (take n spaces) homes
   pub own-of : Places true (take n spaces) owns
   pub standing-of : standings ≡ standingsOf spaces
-
--- the place of an id among ids, from 0; as many as there are where none is it
-abbrev pub placeIn : ℕ → List ℕ → ℕ
-placeIn id [] = 0
-placeIn id (x ∷ xs) = cond (eqb x id) 0 (suc (placeIn id xs))
 
 -- the place asked, among n ids
 abbrev pub askedIn : Bool → Space → List ℕ → ℕ → ℕ

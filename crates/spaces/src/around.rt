@@ -2,10 +2,9 @@
 use crate::enclosure::LEVELS;
 use crate::enclosure::all_above;
 use crate::enclosure::climb;
-use crate::index::ids_of;
 use crate::index::index_ids;
 use crate::index::places;
-use crate::index::standings_of;
+use crate::index::rows_of;
 use crate::row::lesser;
 use crate::row::place_of;
 use crate::row::stands;
@@ -96,12 +95,13 @@ pub fn around_each(records: [Space; 200], count: usize) -> [Around; 200]
     ensures { λ r. ⌜ r ≡ eachAround (take count records) ⌝ }
 {
     let n = used(count);
-    let ids = ids_of(records);
+    let rows = rows_of(records);
+    let ids = rows.ids;
+    let standings = rows.standings;
     let mut index = [n as u8; 10000];
     index_ids(&ids, n, &mut index);
     let homes = places(records, n, false, &index, &ids);
     let owns = places(records, n, true, &index, &ids);
-    let standings = standings_of(records);
     around_places(records, n, &homes, &owns, &standings)
 }
 

@@ -1,6 +1,8 @@
 // The chain upward ("Enclosure"): walked one enclosing space at a time, for levels and for the standings above; and
 // followed by places, for the standings below.
 use crate::index::enclosing_places;
+use crate::index::place_in;
+use crate::index::rows_of;
 use crate::row::place_of;
 use crate::row::used;
 use crate::space::ROOM;
@@ -13,8 +15,8 @@ ghost use mathlib.Core.List.{[]};
 ghost use Prim.Native.Nat.{_≤_, _<_};
 ghost use lib.ListN.{take};
 ghost use Rattle.spaces.specs.Space.{isPlain};
-ghost use Rattle.spaces.specs.Enclosure.{upward, above as aboveOf, allPlain, below, walked};
-ghost use Rattle.spaces.specs.Handed.{pastOf, climbed, leadsTo};
+ghost use Rattle.spaces.specs.Enclosure.{above as aboveOf, allPlain, below, walked};
+ghost use Rattle.spaces.specs.Handed.{pastOf, walkedBy, climbed, leadsTo, idsOf, withinsOf, kindsOf, standingsOf};
 
 // What a walk upward met: how many spaces, and whether all are plain.
 pub struct Above {
@@ -35,29 +37,42 @@ fn nothing() -> Above
     }
 }
 
-// From a space upward to level 1, with `left` levels left. The search for the enclosing space stands in the walk itself: a
-// function of its own would have all the spaces handed on twice a level.
-fn walk(spaces: [Space; 200], count: usize, x: Space, left: usize) -> Above
-    requires { ⌜ left ≤ 8 ⌝ }
-    ensures { λ r. ⌜ r ≡ walked (upward left (take count spaces) x) ⌝ }
+// From a space upward to level 1, with `left` levels left and n spaces standing: by its kind and its enclosing id, in rows that are
+// lent, since all the spaces would be copied at each level.
+fn walk(
+    ids: &[u16; 200],
+    withins: &[u16; 200],
+    kinds: &[u8; 200],
+    standings: &[u8; 200],
+    n: usize,
+    kind: u8,
+    within: u16,
+    left: usize,
+) -> Above
+    requires { ⌜ (left ≤ 8) × (n ≤ 200) ⌝ }
+    ensures { λ r. ⌜ r ≡ walkedBy left n (now (ids .entry)) (now (withins .entry)) (now (kinds .entry)) (now (standings .entry)) kind within ⌝ }
 {
     if left == 0 {
         return nothing();
     }
-    if x.kind != ROOM {
+    if kind != ROOM {
         return nothing();
     }
-    let n = used(count);
-    let mut i = 0;
-    while i < n {
-        let z = spaces[i];
-        if z.id == x.within {
-            let further = walk(spaces, count, z, left - 1);
-            return past(z.standing, further);
-        }
-        i += 1;
+    let at = place_in(ids, n, within);
+    if n <= at {
+        return nothing();
     }
-    nothing()
+    let further = walk(
+        ids,
+        withins,
+        kinds,
+        standings,
+        n,
+        kinds[at],
+        withins[at],
+        left - 1,
+    );
+    past(standings[at], further)
 }
 
 // What is above a space, at most 8 levels of it.
@@ -65,9 +80,21 @@ pub fn all_above(spaces: [Space; 200], count: usize, x: Space) -> Above
     ensures { λ r. ⌜ r ≡ walked (aboveOf (take count spaces) x) ⌝ }
 {
     if x.kind == ROOM {
-        return walk(spaces, count, x, LEVELS);
+        return above_room(spaces, used(count), x.within);
     }
     nothing()
+}
+
+fn above_room(spaces: [Space; 200], n: usize, within: u16) -> Above
+    requires { ⌜ n ≤ 200 ⌝ }
+    ensures { λ r. ⌜ r ≡ walkedBy 8 n (idsOf spaces) (withinsOf spaces) (kindsOf spaces) (standingsOf spaces) 5 within ⌝ }
+{
+    let rows = rows_of(spaces);
+    let ids = rows.ids;
+    let withins = rows.withins;
+    let kinds = rows.kinds;
+    let standings = rows.standings;
+    walk(&ids, &withins, &kinds, &standings, n, ROOM, within, LEVELS)
 }
 
 // A walk that goes past a space of a standing first.

@@ -5,34 +5,38 @@ use crate::space::Space;
 ghost use mathlib.Core.Path.{_≡_};
 ghost use Prim.Native.Nat.{_≤_};
 ghost use lib.ListN.{length, take, replicate};
-ghost use Rattle.spaces.specs.Handed.{idsOf, standingsOf, placeIn, Indexed, Places, EnclosingPlaces, askedIn};
+ghost use Rattle.spaces.specs.Handed.{idsOf, RowsOf, placeIn, Indexed, Places, EnclosingPlaces, askedIn};
 
-// The ids of the spaces, in their order.
-pub(crate) fn ids_of(spaces: [Space; 200]) -> [u16; 200]
-    ensures { λ r. ⌜ r ≡ idsOf spaces ⌝ }
-{
-    let mut ids = [0u16; 200];
-    let mut i = 0;
-    while i < 200 {
-        let x = spaces[i];
-        ids[i] = x.id;
-        i += 1;
-    }
-    ids
+// The spaces' numbers that a search or a walk looks at, each in a row of its own.
+pub struct Rows {
+    pub ids: [u16; 200],
+    pub withins: [u16; 200],
+    pub kinds: [u8; 200],
+    pub standings: [u8; 200],
 }
 
-// The standings of the spaces, in their order.
-pub(crate) fn standings_of(spaces: [Space; 200]) -> [u8; 200]
-    ensures { λ r. ⌜ r ≡ standingsOf spaces ⌝ }
+pub(crate) fn rows_of(spaces: [Space; 200]) -> Rows
+    ensures { λ r. ⌜ RowsOf spaces r ⌝ }
 {
+    let mut ids = [0u16; 200];
+    let mut withins = [0u16; 200];
+    let mut kinds = [0u8; 200];
     let mut standings = [0u8; 200];
     let mut i = 0;
     while i < 200 {
         let x = spaces[i];
+        ids[i] = x.id;
+        withins[i] = x.within;
+        kinds[i] = x.kind;
         standings[i] = x.standing;
         i += 1;
     }
-    standings
+    Rows {
+        ids,
+        withins,
+        kinds,
+        standings,
+    }
 }
 
 // Lays the place of each of the first n ids into an index that has n everywhere; from the last to the first, so that the first
@@ -64,7 +68,8 @@ pub(crate) fn place_by(index: &[u8], ids: &[u16], n: usize, id: u16) -> usize
     place_in(ids, n, id)
 }
 
-fn place_in(ids: &[u16], n: usize, id: u16) -> usize
+// The same by a search.
+pub(crate) fn place_in(ids: &[u16], n: usize, id: u16) -> usize
     requires { ⌜ n ≤ length (now ids) ⌝ }
     ensures { λ r. ⌜ r ≡ placeIn id (take n (now (ids .entry))) ⌝ }
 {
@@ -104,7 +109,8 @@ pub(crate) fn enclosing_places(spaces: [Space; 200], n: usize) -> [usize; 200]
     requires { ⌜ n ≤ 200 ⌝ }
     ensures { λ r. ⌜ EnclosingPlaces (take n spaces) r ⌝ }
 {
-    let ids = ids_of(spaces);
+    let rows = rows_of(spaces);
+    let ids = rows.ids;
     let mut index = [n as u8; 10000];
     index_ids(&ids, n, &mut index);
     places(spaces, n, false, &index, &ids)

@@ -2,25 +2,25 @@
 -- meets what the walk meets. Stands on Places and Index.
 use Prim.Native.Nat.{ℕ, zero, suc, _+_, _-_, _≤_, _<_, min}
 use mathlib.Core.Path.{_≡_, refl, sym, ap, ap₂, _∙_}
-use mathlib.Core.Bool.{Bool, true, false, cond}
+use mathlib.Core.Bool.{Bool, true, false, cond, _&&_}
 use mathlib.Core.List.{List, [], _∷_}
 use mathlib.Core.Option.{Option, none, some}
 use native.Mathlib.Nat.{min-le-left, min-le-right, min-eq-left, min-eq-right, min-comm, suc-min-suc}
 use native.Mathlib.Omega.{arith}
-use borrow.Author.Tests.{ltb-true, ltb-false, lt-ltb, le-ltb, eqb-true}
+use borrow.Author.Tests.{ltb-true, ltb-false, lt-ltb, le-ltb, eqb-true, eq-eqb}
 use lib.Dec.{eqb, ltb}
 use lib.ListN.{length, take, getD, length-take}
-use lib.Seq.{getD-take}
+use lib.Seq.{getD-take, length-take-le, take-all}
 use Rattle.spaces.specs.Space.{emptySpace, isRoom}
 use Rattle.spaces.specs.Row.{find, placeOf, isSome, stands}
 use Rattle.spaces.specs.Enclosure.{enclosing, upward, walked}
 use Rattle.spaces.specs.Around.{enclosingPlace}
-use Rattle.spaces.specs.Handed.{pastOf, EnclosingPlaces, climbed, standingsOf}
+use Rattle.spaces.specs.Handed.{pastOf, EnclosingPlaces, climbed, column, idsOf, withinsOf, kindsOf, standingsOf, placeIn, walkedBy}
 use Rattle.spaces.specs.declared.space.Space.{Space}
 use Rattle.spaces.specs.declared.enclosure.Above.{Above}
 use Rattle.spaces.proofs.laws.Cases.{by-test}
 use Rattle.spaces.proofs.laws.Enclosure.{upward-none, upward-next, walked-past}
-use Rattle.spaces.proofs.laws.Index.{column-at}
+use Rattle.spaces.proofs.laws.Index.{column-at, column-take, place-of-ids}
 
 -- ---- among the first i spaces
 
@@ -125,3 +125,70 @@ standing-there spaces n p h =
     let l = length-take n spaces in
     column-at (λ (x : Space). x .standing) spaces p (omega (arith, min-le-right n (length spaces)))
     ∙ ap (λ (x : Space). x .standing) (sym (getD-take n spaces p emptySpace (omega (arith, min-le-left n (length spaces)))))
+
+-- ---- a walk in rows of numbers
+
+pub walked-nowhere : (left n : ℕ) (ids withins kinds standings : List ℕ) (kind within : ℕ) → (kind ≡ 5 → n ≤ placeIn within (take n ids))
+    → walkedBy left n ids withins kinds standings kind within ≡ walked []
+unfolding walkedBy
+walked-nowhere zero n ids withins kinds standings kind within h = refl
+walked-nowhere (suc left) n ids withins kinds standings kind within h =
+    by-test (eqb kind 5)
+    (λ t. rw (t, le-ltb (placeIn within (take n ids)) n (h (eqb-true kind 5 t))))
+    (λ f. rw f)
+
+pub walked-on : (left n : ℕ) (ids withins kinds standings : List ℕ) (kind within : ℕ) → 0 < left → kind ≡ 5 → placeIn within (take n ids) < n
+    → let at = placeIn within (take n ids) in
+    walkedBy left n ids withins kinds standings kind within
+    ≡ pastOf (getD standings at 0) (walkedBy (left - 1) n ids withins kinds standings (getD kinds at 0) (getD withins at 0))
+unfolding walkedBy
+walked-on zero n ids withins kinds standings kind within h room there = absurd (omega arith)
+walked-on (suc left) n ids withins kinds standings kind within h room there =
+    let at = placeIn within (take n ids) in
+    let l : left ≡ suc left - 1 = omega arith in
+    rw (eq-eqb kind 5 room, lt-ltb at n there)
+    (ap (λ (k : ℕ). pastOf (getD standings at 0) (walkedBy k n ids withins kinds standings (getD kinds at 0) (getD withins at 0))) l)
+
+pub walked-short : (left n : ℕ) (ids withins kinds standings : List ℕ) (kind within : ℕ) → walkedBy left n ids withins kinds standings kind within .levels ≤ left
+unfolding walkedBy
+walked-short zero n ids withins kinds standings kind within = omega arith
+walked-short (suc left) n ids withins kinds standings kind within =
+    let at = placeIn within (take n ids) in
+    let further = walked-short left n ids withins kinds standings (getD kinds at 0) (getD withins at 0) in
+    by-test (eqb kind 5 && ltb at n) (λ t. rw t (omega arith)) (λ f. rw f (omega arith))
+
+-- it meets what the walk meets
+module _ (spaces : List Space) (n : ℕ) (few : n ≤ length spaces) where
+  abbrev first : List Space
+  first = take n spaces
+
+  in-rows : (within : ℕ) → placeIn within (take n (idsOf spaces)) ≡ placeOf within first
+  in-rows within = ap (placeIn within) (column-take (λ (x : Space). x .id) n spaces) ∙ place-of-ids within first
+
+  at-place : (f : Space → ℕ) (p : ℕ) → p < n → getD (column f spaces) p 0 ≡ f (getD first p emptySpace)
+  at-place f p h = column-at f spaces p (omega arith) ∙ ap f (sym (getD-take n spaces p emptySpace h))
+
+  size : length first ≡ n
+  size = length-take-le n spaces few
+
+  pub walked-in-rows : (left : ℕ) (x : Space)
+      → walkedBy left n (idsOf spaces) (withinsOf spaces) (kindsOf spaces) (standingsOf spaces) (x .kind) (x .within) ≡ walked (upward left first x)
+  unfolding walkedBy
+  walked-in-rows zero x = refl
+  walked-in-rows (suc left) x =
+      let p = placeOf (x .within) first in
+      let z = getD first p emptySpace in
+      let whole = take-all (length first) first (omega arith) in
+      let found : find (x .within) first ≡ cond (ltb p n) (some z) none =
+      ap (find (x .within)) (sym whole) ∙ found-before (x .within) first (length first) (omega arith) ∙ ap (λ (k : ℕ). cond (ltb p k) (some z) none) size in
+      rw (in-rows (x .within))
+      (by-test (isRoom x)
+      (λ r.
+      by-test (ltb p n)
+      (λ t.
+      let low = ltb-true p n t in
+      rw (r, t, found, t)
+      (rw (at-place (λ (y : Space). y .standing) p low, at-place (λ (y : Space). y .kind) p low, at-place (λ (y : Space). y .within) p low)
+      (ap (pastOf (z .standing)) (walked-in-rows left z) ∙ sym (walked-past z (upward left first z)))))
+      (λ f. rw (r, f, found, f)))
+      (λ r. rw r))

@@ -1,6 +1,7 @@
 -- `around::around_each` meets its contract: the places used are those that stand.
 use Prim.Native.Nat.{ℕ}
 use mathlib.Core.Path.{_≡_, ap, _∙_}
+use native.Mathlib.Omega.{arith}
 use lib.ListN.{length, take}
 use Rattle.spaces.specs.Around.{eachAround}
 use Rattle.spaces.proofs.laws.Row.{take-used}
@@ -11,8 +12,8 @@ use Rattle.spaces.proofs.around.around_each.Tie as tie
 used-requires : tie.Need-used-requires
 used-requires c κs = search needs
 
-ids-of-requires : tie.Need-ids-of-requires
-ids-of-requires c κs = search needs
+rows-of-requires : tie.Need-rows-of-requires
+rows-of-requires c κs = search needs
 
 cast-index : tie.Need-cast-index
 cast-index c = search needs
@@ -24,7 +25,9 @@ slice-aggregate-index-ids-2 : tie.Need-slice-aggregate-index-ids-2
 slice-aggregate-index-ids-2 c = search needs
 
 index-ids-requires : tie.Need-index-ids-requires
-index-ids-requires c κs = search needs
+index-ids-requires c κs =
+    let rows = c .before .before .before .before .rows-of .ensures in
+    (search needs, omega (arith, rows .places), search needs)
 
 places-requires : tie.Need-places-requires
 places-requires c κs = search needs
@@ -32,15 +35,12 @@ places-requires c κs = search needs
 places-requires-2 : tie.Need-places-requires-2
 places-requires-2 c κs = search needs
 
-standings-of-requires : tie.Need-standings-of-requires
-standings-of-requires c κs = search needs
-
 around-places-requires : tie.Need-around-places-requires
 around-places-requires c κs = search needs
 
 returns : tie.Need-returns
 returns c =
-    let u = c .before .before .before .before .before .before .before .before .before .before .before .before .before .before .before .before in
+    let u = c .before .before .before .before .before .before .before .before .before .before .before .before .before .before .before .before .before in
     let a = u .before .args in
     let full : length (a .records) ≡ 200 = search needs in
     c .around-places .ensures ∙ ap eachAround (ap (λ (k : ℕ). take k (a .records)) (u .used .ensures) ∙ take-used (a .records) (a .count) full)
@@ -50,13 +50,12 @@ around-each-spec =
     tie.close
     (tie.spec
     used-requires
-    ids-of-requires
+    rows-of-requires
     cast-index
     slice-aggregate-index-ids
     slice-aggregate-index-ids-2
     index-ids-requires
     places-requires
     places-requires-2
-    standings-of-requires
     around-places-requires
     returns)
