@@ -5,13 +5,12 @@ use crate::sheet::Sheet;
 use measure::offsets::measure_offsets;
 use measure::ranges::tonnage_length_fits;
 use measure::units::Hundredths;
-use spaces::row::place_of;
 use spaces::space::ROOM;
 use spaces::space::Space;
 use standard::gross::reckon;
 use standard::rules::entry_number;
-use standard::rules::mark_number;
-use standard::rules::withdraw_number;
+use standard::rules::mark_ruling;
+use standard::rules::withdraw_ruling;
 ghost use mathlib.Core.Path.{_≡_};
 ghost use mathlib.Core.Bool.{_&&_};
 ghost use lib.Dec.{eqb};
@@ -140,14 +139,14 @@ impl Sheet {
         }
         let spaces = self.spaces;
         let count = self.count;
-        let number = withdraw_number(spaces, count, id);
-        if number != 0 {
+        let ruling = withdraw_ruling(spaces, count, id);
+        if ruling.number != 0 {
             return Changed {
-                number,
+                number: ruling.number,
                 sheet: self,
             };
         }
-        let place = place_of(spaces, count, id);
+        let place = ruling.place;
         let x = spaces[place];
         let change = Change::Withdrawn(place, x);
         Changed {
@@ -174,14 +173,14 @@ impl Sheet {
         }
         let spaces = self.spaces;
         let count = self.count;
-        let number = mark_number(spaces, count, id, standing);
-        if number != 0 {
+        let ruling = mark_ruling(spaces, count, id, standing);
+        if ruling.number != 0 {
             return Changed {
-                number,
+                number: ruling.number,
                 sheet: self,
             };
         }
-        let place = place_of(spaces, count, id);
+        let place = ruling.place;
         let before = spaces[place];
         let change = Change::Marked(place, before.standing, standing);
         Changed {

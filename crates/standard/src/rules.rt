@@ -16,9 +16,8 @@ use spaces::enclosure::LEVELS;
 use spaces::enclosure::all_above;
 use spaces::enclosure::plain_below;
 use spaces::row::Found;
-use spaces::row::find;
 use spaces::row::lesser;
-use spaces::row::stands;
+use spaces::row::place_of;
 use spaces::row::used;
 use spaces::space::HATCHWAY;
 use spaces::space::ROOM;
@@ -36,13 +35,20 @@ ghost use Rattle.spaces.specs.Space.{isRoom, isPlain};
 ghost use Rattle.spaces.specs.Row.{isSome};
 ghost use Rattle.spaces.specs.Enclosure.{above, allPlain, below};
 ghost use Rattle.standard.specs.Standings.{mayTake};
-ghost use Rattle.standard.specs.Rules.{inHatchway, entryNumber, enclosesRoom, withdrawNumber, markNumber};
+ghost use Rattle.standard.specs.Rules.{inHatchway, entryNumber, enclosesRoom, withdrawRuling, markRuling};
 ghost use Rattle.standard.specs.Handed.{searched, overfullBy, judgedNumber};
 
 // Ids go from 1 to 9,999.
 const GREATEST_ID: u16 = 9_999;
 // Spaces that a sheet has room for.
 const PLACES: usize = 200;
+
+// A withdrawal or a mark judged: the number with which it is refused, or 0, and the place of the space with its id, from 0; as many
+// as stand where none has it.
+pub struct Ruling {
+    pub number: u8,
+    pub place: usize,
+}
 
 // 4: new id outside its range or already standing.
 fn id_refused(x: Space, taken: bool) -> bool
@@ -184,17 +190,24 @@ fn encloses_room(spaces: [Space; 200], count: usize, id: u16) -> bool
     0 < sum(spaces, count, Amount::Rooms(id))
 }
 
-// The number with which a withdrawal is refused, or 0.
-pub fn withdraw_number(spaces: [Space; 200], count: usize, id: u16) -> u8
-    ensures { λ r. ⌜ r ≡ withdrawNumber (take count spaces) id ⌝ }
+// The space with an id is searched for once: the number comes with its place.
+pub fn withdraw_ruling(spaces: [Space; 200], count: usize, id: u16) -> Ruling
+    ensures { λ r. ⌜ r ≡ withdrawRuling (take count spaces) id ⌝ }
 {
-    if !stands(spaces, count, id) {
-        return NOT_STANDING;
+    let place = place_of(spaces, count, id);
+    if used(count) <= place {
+        return Ruling {
+            number: NOT_STANDING,
+            place,
+        };
     }
     if encloses_room(spaces, count, id) {
-        return ENCLOSES_ROOM;
+        return Ruling {
+            number: ENCLOSES_ROOM,
+            place,
+        };
     }
-    0
+    Ruling { number: 0, place }
 }
 
 // 8 of a mark: not plain, and a space above or below isn't plain.
@@ -211,21 +224,28 @@ fn marked_twice(spaces: [Space; 200], count: usize, z: Space, id: u16, standing:
     !plain_below(spaces, count, id)
 }
 
-// The number with which a mark is refused, or 0.
-pub fn mark_number(spaces: [Space; 200], count: usize, id: u16, standing: u8) -> u8
-    ensures { λ r. ⌜ r ≡ markNumber (take count spaces) id standing ⌝ }
+pub fn mark_ruling(spaces: [Space; 200], count: usize, id: u16, standing: u8) -> Ruling
+    ensures { λ r. ⌜ r ≡ markRuling (take count spaces) id standing ⌝ }
 {
-    let found = find(spaces, count, id);
-    match found {
-        Found::At(z) => {
-            if !may_take(z.kind, standing) {
-                return MISPLACED;
-            }
-            if marked_twice(spaces, count, z, id, standing) {
-                return OFF_TWICE;
-            }
-            0
-        }
-        Found::Nothing => NOT_STANDING,
+    let place = place_of(spaces, count, id);
+    if used(count) <= place {
+        return Ruling {
+            number: NOT_STANDING,
+            place,
+        };
     }
+    let z = spaces[place];
+    if !may_take(z.kind, standing) {
+        return Ruling {
+            number: MISPLACED,
+            place,
+        };
+    }
+    if marked_twice(spaces, count, z, id, standing) {
+        return Ruling {
+            number: OFF_TWICE,
+            place,
+        };
+    }
+    Ruling { number: 0, place }
 }

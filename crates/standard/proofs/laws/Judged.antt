@@ -1,5 +1,5 @@
 -- An entry judged by what is around it is judged as the definition has it.
-use Prim.Native.Nat.{ℕ, _+_, _<_}
+use Prim.Native.Nat.{ℕ, _+_, _≤_, _<_}
 use mathlib.Core.Path.{_≡_, refl, sym, ap, _∙_}
 use mathlib.Core.Bool.{Bool, true, false, cond, not, _&&_, _||_}
 use mathlib.Core.List.{List, [], _∷_}
@@ -13,14 +13,15 @@ use lib.Seq.{take-all, getD-take}
 use Rattle.measure.specs.declared.units.Hundredths.{Hundredths}
 use Rattle.measure.specs.Refusals.{firstOf}
 use Rattle.spaces.specs.Space.{emptySpace, isUnderDeck, isRoom, isPlain}
-use Rattle.spaces.specs.Row.{isSome, sumOf}
+use Rattle.spaces.specs.Row.{used, find, placeOf, isSome, sumOf}
 use Rattle.spaces.specs.Enclosure.{enclosing, above}
 use Rattle.spaces.specs.Around.{enclosingPlace, aroundOf}
 use Rattle.spaces.specs.declared.space.Space.{Space}
 use Rattle.spaces.specs.declared.around.Around.{Around}
 use Rattle.spaces.specs.declared.sums.Amount.the-variants.{Inside, Lengths}
 use Rattle.spaces.proofs.laws.Cases.{by-test, by-option, none-not-some}
-use Rattle.spaces.proofs.laws.Climb.{enclosing-before}
+use Rattle.spaces.proofs.laws.Row.{used-is}
+use Rattle.spaces.proofs.laws.Climb.{found-before, enclosing-before}
 use Rattle.standard.specs.Rules.{unhoused, misplaced, overfull, noPlace, entryTests, entryNumber}
 use Rattle.standard.specs.Handed.{overfullBy, judgedNumber}
 
@@ -50,6 +51,26 @@ enclosed-by spaces k home at n size there =
     ap (λ (p : ℕ). getD spaces p emptySpace) (there low) ∙ sym (getD-take k spaces home emptySpace (omega (arith, length-take k spaces, min-le-left k (length spaces)))) in
     rw (t, sym size, t, same))
     (λ f. rw (f, sym size, f))
+
+-- and the space with an id by its place, of those that are used: it lies there, or none has the id
+pub record FoundBy (spaces : List Space) (count id place n : ℕ) : Type 0 where
+  pub there : place < n → find id (take count spaces) ≡ some (getD spaces place emptySpace)
+  pub nowhere : n ≤ place → find id (take count spaces) ≡ none
+
+pub found-by : (spaces : List Space) (count id : ℕ) {place n : ℕ} → length spaces ≡ 200 → place ≡ placeOf id (take count spaces) → n ≡ used count
+    → FoundBy spaces count id place n
+found-by spaces count id {place} {n} full own all =
+    record { there = λ low. rw (lt-ltb place n low) at found; nowhere = λ high. rw (le-ltb place n high) at found }
+  where
+    xs : List Space
+    xs = take count spaces
+
+    found : find id xs ≡ cond (ltb place n) (some (getD spaces place emptySpace)) none
+    found =
+        ap (find id) (sym (take-all (length xs) xs (omega arith)))
+        ∙ found-before id xs (length xs) (omega arith)
+        ∙ ap (λ (p : ℕ). enclosedAt p xs) (sym own)
+        ∙ sym (enclosed-by spaces count place place n (all ∙ used-is spaces count full) (λ low. refl))
 
 -- what an enclosed space is added to, and one that isn't
 beside-enclosed : (xs : List Space) (x : Space) {z : Space} → enclosing xs x ≡ some z → aroundOf xs x .beside ≡ sumOf (Inside (x .within)) xs

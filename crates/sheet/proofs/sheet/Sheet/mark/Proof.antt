@@ -13,7 +13,10 @@ use lib.Dec.{ltb}
 use lib.ListN.{getD}
 use Rattle.spaces.specs.Space.{emptySpace}
 use Rattle.spaces.specs.Row.{find, placeOf}
-use Rattle.standard.specs.Rules.{cannotTake, markedTwice, markTests, markNumber}
+use Rattle.standard.specs.Rules.{cannotTake, markedTwice, markTests, markNumber, markRuling}
+use Rattle.standard.specs.declared.rules.Ruling.{Ruling}
+use Rattle.measure.specs.Refusals.{firstOf}
+use mathlib.Core.Bool.{not}
 use Rattle.spaces.specs.declared.space.Space.{Space}
 use Rattle.sheet.specs.Calls.{answered, changed, marking, marked}
 use Rattle.sheet.specs.declared.changes.Change.the-variants.{Marked}
@@ -46,67 +49,85 @@ returns-2 c =
     let on = is-open sh ((ltb 3 st, 2) ∷ tests) (holds (c .before .before .usable .ensures .usable-is) (c .before .if1 .left)) in
     ap (λ (k : ℕ). answered k sh next) (sym (on ∙ applies (ltb 3 st) 2 tests (lt-ltb 3 st (c .if2 .taken))))
 
-mark-number-requires : tie.Need-mark-number-requires
-mark-number-requires c κs = search needs
+mark-ruling-requires : tie.Need-mark-ruling-requires
+mark-ruling-requires c κs = search needs
 
-returns-3 : tie.Need-returns-3
-unfolding marked markNumber
-returns-3 c =
-    let s = c .before .before .before .before .before .before in
-    let sh = s .args .self in
-    let st = s .args .standing in
-    let tests = markTests (standing sh) (s .args .id) st in
-    let next = changed (marking sh (s .args .id) st) sh in
-    let on = is-open sh ((ltb 3 st, 2) ∷ tests) (holds (c .before .before .before .before .before .usable .ensures .usable-is) (c .before .before .before .before .if1 .left)) ∙ passes (ltb 3 st) 2 tests (le-ltb 3 st (c .before .before .before .if2 .left)) in
-    refused (c .before .mark-number .result) sh next (c .if3 .taken)
-    ∙ ap (λ (k : ℕ). answered k sh next) (c .before .mark-number .ensures ∙ sym on)
+-- the number is the definition's; where it is 0 the space marked stands, and lies at its place
+number-is : (c : tie.After-mark-ruling) → (let s = c .before .before .before .before .before in c .mark-ruling .result .number ≡ firstOf (markTests (standing (s .args .self)) (s .args .id) (s .args .standing)))
+unfolding markNumber markRuling
+number-is c = ap (λ (r : Ruling). r .number) (c .mark-ruling .ensures)
 
-place-of-requires : tie.Need-place-of-requires
-place-of-requires c κs = search needs
+place-is : (c : tie.After-mark-ruling) → (let s = c .before .before .before .before .before in c .mark-ruling .result .place ≡ placeOf (s .args .id) (standing (s .args .self)))
+unfolding markRuling
+place-is c = ap (λ (r : Ruling). r .place) (c .mark-ruling .ensures)
 
--- the space marked stands, so it lies at its place
-there : (c : tie.After-place-of) → (let s = c .before .before .before .before .before .before .before in PlaceOf (s .args .self) (s .args .id))
-unfolding markNumber
-there c =
-    let n = c .before .before in
-    let s = n .before .before .before .before .before in
+there : (c : tie.After-mark-ruling) → c .mark-ruling .result .number ≡ 0 → (let s = c .before .before .before .before .before in PlaceOf (s .args .self) (s .args .id))
+there c none =
+    let u = c .before .before .before in
+    let s = u .before .before in
     let xs = standing (s .args .self) in
     has-place (s .args .self) (s .args .id) ((cannotTake (find (s .args .id) xs) (s .args .standing), 6) ∷ (markedTwice xs (s .args .id) (s .args .standing), 8) ∷ [])
-    (places (n .before .before .before .before .usable .ensures) (not-false _ (n .before .before .before .if1 .left)))
-    (sym (n .mark-number .ensures) ∙ c .before .if3 .left)
+    (places (u .before .usable .ensures) (not-false _ (u .if1 .left)))
+    (sym (number-is c) ∙ none)
 
-inside : (c : tie.After-place-of) → c .place-of .result < 200
-inside c =
-    let u = c .before .before .before .before .before in
-    omega (arith, c .place-of .ensures, there c .taken, places (u .before .usable .ensures) (not-false _ (u .if1 .left)) .count)
+inside : (c : tie.After-mark-ruling) → c .mark-ruling .result .number ≡ 0 → c .mark-ruling .result .place < 200
+inside c none =
+    let u = c .before .before .before in
+    omega (arith, place-is c, there c none .taken, places (u .before .usable .ensures) (not-false _ (u .if1 .left)) .count)
 
-mul-before : tie.Need-mul-before
-mul-before c = omega (arith, inside c)
-
-array-copy-out-before : tie.Need-array-copy-out-before
-array-copy-out-before c = omega (arith, inside c)
-
-made-requires : tie.Need-made-requires
-made-requires c κs = places (c .before .before .before .before .before .before .before .usable .ensures) (not-false _ (c .before .before .before .before .before .before .if1 .left))
-
-noted-requires : tie.Need-noted-requires
-noted-requires c κs = rw (c .made .ensures) (fitted-open-places _ _ (open-places (c .before .before .before .before .before .before .before .before .usable .ensures) (not-false _ (c .before .before .before .before .before .before .before .if1 .left))))
-
-returns-4 : tie.Need-returns-4
-unfolding marked markNumber
-returns-4 c =
-    let s = c .before .before .before .before .before .before .before .before .before .before in
+-- the sheet is open and the standing in its range: the number is the ruling's
+ruled : (c : tie.After-mark-ruling) → (let s = c .before .before .before .before .before in firstOf ((not (usable (s .args .self)), 1) ∷ (ltb 3 (s .args .standing), 2) ∷ markTests (standing (s .args .self)) (s .args .id) (s .args .standing)) ≡ c .mark-ruling .result .number)
+ruled c =
+    let t = c .before .before in
+    let u = t .before in
+    let s = u .before .before in
     let sh = s .args .self in
     let st = s .args .standing in
     let tests = markTests (standing sh) (s .args .id) st in
+    is-open sh ((ltb 3 st, 2) ∷ tests) (holds (u .before .usable .ensures .usable-is) (u .if1 .left))
+    ∙ passes (ltb 3 st) 2 tests (le-ltb 3 st (t .if2 .left))
+    ∙ sym (number-is c)
+
+returns-3 : tie.Need-returns-3
+unfolding marked
+returns-3 c =
+    let n = c .before .before in
+    let s = n .before .before .before .before .before in
+    let sh = s .args .self in
+    let next = changed (marking sh (s .args .id) (s .args .standing)) sh in
+    refused (n .mark-ruling .result .number) sh next (c .if3 .taken)
+    ∙ ap (λ (k : ℕ). answered k sh next) (sym (ruled n))
+
+mul-before : tie.Need-mul-before
+mul-before c = omega (arith, inside (c .before .before) (c .if3 .left))
+
+array-copy-out-before : tie.Need-array-copy-out-before
+array-copy-out-before c = inside (c .before .before) (c .if3 .left)
+
+made-requires : tie.Need-made-requires
+made-requires c κs =
+    let u = c .before .before .before .before .before .before in
+    places (u .before .usable .ensures) (not-false _ (u .if1 .left))
+
+noted-requires : tie.Need-noted-requires
+noted-requires c κs =
+    let u = c .before .before .before .before .before .before .before in
+    rw (c .made .ensures) (fitted-open-places _ _ (open-places (u .before .usable .ensures) (not-false _ (u .if1 .left))))
+
+returns-4 : tie.Need-returns-4
+unfolding marked
+returns-4 c =
+    let none = c .before .before .before .if3 .left in
+    let n = c .before .before .before .before .before in
+    let s = n .before .before .before .before .before in
+    let sh = s .args .self in
+    let st = s .args .standing in
     let next = changed (marking sh (s .args .id) st) sh in
-    let on = is-open sh ((ltb 3 st, 2) ∷ tests) (holds (c .before .before .before .before .before .before .before .before .before .usable .ensures .usable-is) (c .before .before .before .before .before .before .before .before .if1 .left)) ∙ passes (ltb 3 st) 2 tests (le-ltb 3 st (c .before .before .before .before .before .before .before .if2 .left)) in
-    let p = c .before .before .before in
-    let ch : Marked (p .place-of .result) (getD (sh .spaces) (p .place-of .result) emptySpace .standing) st ≡ marking sh (s .args .id) st =
-    ap (λ (k : ℕ). Marked k (getD (sh .spaces) k emptySpace .standing) st) (p .place-of .ensures) ∙ ap (λ (x : Space). Marked (placeOf (s .args .id) (standing sh)) (x .standing) st) (there p .there) in
+    let place = n .mark-ruling .result .place in
+    let ch : Marked place (getD (sh .spaces) place emptySpace .standing) st ≡ marking sh (s .args .id) st =
+    ap (λ (k : ℕ). Marked k (getD (sh .spaces) k emptySpace .standing) st) (place-is n) ∙ ap (λ (x : Space). Marked (placeOf (s .args .id) (standing sh)) (x .standing) st) (there n none .there) in
     let after = c .noted .ensures ∙ ap₂ noted ch (c .before .made .ensures ∙ ap (λ (x : Change). made x sh) ch) in
-    let none = on ∙ sym (c .before .before .before .before .before .mark-number .ensures) ∙ c .before .before .before .before .if3 .left in
-    ap (λ (x : Sheet). record { number = 0; sheet = x }) after ∙ ap (λ (k : ℕ). answered k sh next) (sym none)
+    ap (λ (x : Sheet). record { number = 0; sheet = x }) after ∙ ap (λ (k : ℕ). answered k sh next) (sym (ruled n ∙ none))
 
 pub mark-spec : {M : Type 1} → statement M
 mark-spec =
@@ -115,9 +136,8 @@ mark-spec =
     usable-requires
     returns
     returns-2
-    mark-number-requires
+    mark-ruling-requires
     returns-3
-    place-of-requires
     mul-before
     array-copy-out-before
     made-requires
