@@ -124,13 +124,13 @@ pub standard-entry-number :
     One standard.rules.entry_number.ended standard.rules.entry_number.Reads.Asked standard.rules.entry_number.Reads.Learnt
 standard-entry-number _ = record { nothing-asked = tt; one-answer = agree; one-left = λ p q. refl }
 
-pub standard-withdraw-number :
-    One standard.rules.withdraw_number.ended standard.rules.withdraw_number.Reads.Asked standard.rules.withdraw_number.Reads.Learnt
-standard-withdraw-number _ = record { nothing-asked = tt; one-answer = agree; one-left = λ p q. refl }
+pub standard-withdraw-ruling :
+    One standard.rules.withdraw_ruling.ended standard.rules.withdraw_ruling.Reads.Asked standard.rules.withdraw_ruling.Reads.Learnt
+standard-withdraw-ruling _ = record { nothing-asked = tt; one-answer = agree; one-left = λ p q. refl }
 
-pub standard-mark-number :
-    One standard.rules.mark_number.ended standard.rules.mark_number.Reads.Asked standard.rules.mark_number.Reads.Learnt
-standard-mark-number _ = record { nothing-asked = tt; one-answer = agree; one-left = λ p q. refl }
+pub standard-mark-ruling :
+    One standard.rules.mark_ruling.ended standard.rules.mark_ruling.Reads.Asked standard.rules.mark_ruling.Reads.Learnt
+standard-mark-ruling _ = record { nothing-asked = tt; one-answer = agree; one-left = λ p q. refl }
 
 pub standard-may-take :
     One standard.standings.may_take.ended standard.standings.may_take.Reads.Asked standard.standings.may_take.Reads.Learnt
