@@ -7,6 +7,7 @@ mod fields;
 mod numbers;
 mod reading;
 mod record;
+pub mod refusals;
 mod trailer;
 mod writing;
 

@@ -1,5 +1,8 @@
 // Reading the last sheet of a file, whatever its bytes ("Reading judges the last sheet only").
 use crate::record::read_records;
+use crate::refusals::NO_SHEET;
+use crate::refusals::WRONG_FIGURES;
+use crate::refusals::WRONG_RECORD;
 use crate::trailer::TRAILER_SIZE;
 use crate::trailer::Trailer;
 use crate::trailer::read_trailer;
@@ -29,7 +32,7 @@ pub fn read(file: &[u8]) -> Reading
     ensures { λ r. ⌜ r ≡ readOf (now (file .entry)) ⌝ }
 {
     if no_sheet(file) {
-        return refused(16, 0);
+        return refused(NO_SHEET, 0);
     }
     let trailer = last_trailer(file);
     let count = trailer.count;
@@ -37,7 +40,7 @@ pub fn read(file: &[u8]) -> Reading
     let spaces = read_records(part_from(file, start), count);
     let resumed = Sheet::resume(trailer.tonnage_length, spaces, count);
     if resumed.position != 0 {
-        return refused(17, resumed.position);
+        return refused(WRONG_RECORD, resumed.position);
     }
     let sheet = resumed.sheet;
     judged(sheet, trailer, start)
@@ -85,10 +88,10 @@ fn judged(sheet: Sheet, trailer: Trailer, start: usize) -> Reading
         return refused(report.number, 0);
     }
     if report.gross != trailer.gross {
-        return refused(18, 0);
+        return refused(WRONG_FIGURES, 0);
     }
     if report.net != trailer.net {
-        return refused(18, 0);
+        return refused(WRONG_FIGURES, 0);
     }
     Reading {
         number: 0,

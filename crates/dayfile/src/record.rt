@@ -5,6 +5,8 @@ use crate::fields::put_fields;
 use measure::units::Hundredths;
 use spaces::space::Space;
 use spaces::space::empty;
+use standard::records::GREATEST_TONNAGE;
+use standard::rules::GREATEST_ID;
 ghost use mathlib.Core.Path.{_≡_};
 ghost use Prim.Native.Nat.{_*_, _≤_};
 ghost use lib.ListN.{length, take};
@@ -19,7 +21,15 @@ const WIDTHS: [u8; 7] = [2, 2, 1, 1, 2, 4, 4];
 
 const LEAST: [u64; 7] = [1, 0, 1, 0, 0, 0, 1];
 
-const GREATEST: [u64; 7] = [9_999, 65_535, 5, 3, 0, 100_000_000, 150_000];
+const GREATEST: [u64; 7] = [
+    GREATEST_ID as u64,
+    65_535,
+    5,
+    3,
+    0,
+    GREATEST_TONNAGE as u64,
+    150_000,
+];
 
 // Writes the records of the first `count` spaces, one after the other, from the front of a part of a buffer.
 pub(crate) fn write_records(buf: &mut [u8], spaces: [Space; 200], count: usize)

@@ -1,6 +1,7 @@
 // Writing a sheet into a lent buffer ("Writing starts at a place in the buffer that the caller names").
 use crate::record::RECORD_SIZE;
 use crate::record::write_records;
+use crate::refusals::NO_ROOM;
 use crate::trailer::Trailer;
 use crate::trailer::sheet_size;
 use crate::trailer::write_trailer;
@@ -48,10 +49,10 @@ fn store(sheet: Sheet, justified: u8, buf: &mut [u8], at: usize) -> Stored
     let count = sheet.standing_count();
     let size = sheet_size(count);
     if buf.len() < at {
-        return refused(15);
+        return refused(NO_ROOM);
     }
     if buf.len() - at < size {
-        return refused(15);
+        return refused(NO_ROOM);
     }
     let trailer = Trailer {
         count,

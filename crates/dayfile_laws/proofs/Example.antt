@@ -5,11 +5,11 @@ use lib.ListN.{length}
 use Rattle.measure.specs.Volumes.{hundredths}
 use Rattle.measure.specs.Rounding.{nearest}
 use Rattle.measure.specs.Kinds.{kindOf}
-use Rattle.measure.specs.Ranges.{within}
+use Rattle.measure.specs.Ranges.{includes}
 use Rattle.measure.specs.Allowances.{hatchwayAllowance, hatchwayExcess, ballastOver}
 use Rattle.standard.specs.Standings.{mayTake}
 use Rattle.spaces.specs.Enclosure.{above}
-use Rattle.standard.specs.Gross.{grossOver, gross, net, unjustified}
+use Rattle.standard.specs.Gross.{grossOver, gross, net, needsMark}
 use Rattle.sheet.specs.Sheet.{standing, usable, blank}
 use Rattle.sheet.specs.Calls.{reported}
 use Rattle.standard.specs.Records.{recordNumber}
@@ -32,7 +32,7 @@ wholeSheet =
     ∷ [])
 
 resumes : ResumableSheet wholeSheet
-unfolding within kindOf mayTake above blank recordNumber
+unfolding includes kindOf mayTake above blank recordNumber
 resumes =
     record {
       places = refl;
@@ -42,7 +42,7 @@ resumes =
 
 -- "GROSS 124.39", "NET 121.19"
 pub whole-report : reported wholeSheet 0 ≡ record { number = 0; gross = 12439; net = 12119; sheet = wholeSheet }
-unfolding nearest hatchwayAllowance hatchwayExcess ballastOver grossOver gross net unjustified usable blank reported
+unfolding nearest hatchwayAllowance hatchwayExcess ballastOver grossOver gross net needsMark usable blank reported
 whole-report = refl
 
 pub whole-sheet-writable : Writable wholeSheet 0

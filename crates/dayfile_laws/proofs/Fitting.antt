@@ -9,13 +9,13 @@ use borrow.Author.Tests.{not-false, ltb-true, ltb-false, leb-true, eqb-true}
 use lib.Dec.{ltb, leb}
 use Rattle.measure.specs.declared.units.Hundredths.{Hundredths}
 use Rattle.measure.specs.Kinds.{kindOf}
-use Rattle.measure.specs.Ranges.{within, lengths}
+use Rattle.measure.specs.Ranges.{includes, lengths}
 use Rattle.measure.specs.Handed.{mostTons}
 use Rattle.measure.specs.declared.kinds.Kind.{Kind}
 use Rattle.measure.specs.declared.kinds.Kind.the-variants.{UnderDeck, BetweenDeck, Superstructure, Hatchway, Room, NoKind}
 use Rattle.measure.specs.declared.ranges.Range.{Range}
 use Rattle.measure.proofs.laws.Tests.{and-left}
-use Rattle.measure.proofs.laws.Ranges.{within-most}
+use Rattle.measure.proofs.laws.Ranges.{includes-most}
 use Rattle.spaces.specs.Space.{isRoom}
 use Rattle.standard.specs.Standings.{mayTake}
 use Rattle.standard.specs.Gross.{gross, net}
@@ -41,9 +41,9 @@ every-length Hatchway = omega arith
 every-length Room = omega arith
 every-length NoKind = omega arith
 
-pub in-range : (r : Range) (x : ℕ) → within r x ≡ true → (r .least ≤ x) × (x ≤ r .most)
-unfolding within
-in-range r x e = (leb-true _ _ (and-left (leb (r .least) x) _ e), within-most r x e)
+pub in-range : (r : Range) (x : ℕ) → includes r x ≡ true → (r .least ≤ x) × (x ≤ r .most)
+unfolding includes
+in-range r x e = (leb-true _ _ (and-left (leb (r .least) x) _ e), includes-most r x e)
 
 -- the rows and columns of the table of standings
 kind-at-least : (kind taken : ℕ) → mayTake kind taken ≡ true → 1 ≤ kind
@@ -68,7 +68,7 @@ record RightlyRecorded (x : Space) : Type 0 where
 
 record-facts : (x : Space) → misrecorded x ≡ false → RightlyRecorded x
 record-facts x e =
-    let a = or-fails (ltb 100000000 (x .tonnage) || not (within (lengths (kindOf (x .kind))) (x .length .0))) _ e in
+    let a = or-fails (ltb 100000000 (x .tonnage) || not (includes (lengths (kindOf (x .kind))) (x .length .0))) _ e in
     let b = or-fails (ltb 100000000 (x .tonnage)) _ (a .0) in
     let l = in-range (lengths (kindOf (x .kind))) (x .length .0) (not-false _ (b .1)) in
     let k = every-length (kindOf (x .kind)) in

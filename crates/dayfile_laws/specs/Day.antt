@@ -5,7 +5,7 @@ use mathlib.Core.Bool.{true}
 use mathlib.Core.List.{List, [], _∷_}
 use lib.ListN.{length}
 use Rattle.measure.specs.declared.units.Hundredths.{Hundredths}
-use Rattle.measure.specs.Ranges.{within, tonnageLengths}
+use Rattle.measure.specs.Ranges.{includes, tonnageLengths}
 use Rattle.spaces.specs.declared.space.Space.{Space}
 use Rattle.sheet.specs.Sheet.{standing, blank}
 use Rattle.sheet.specs.Changes.{withStanding}
@@ -19,7 +19,7 @@ use Rattle.dayfile.specs.declared.reading.Reading.{Reading}
 -- `resume` accepts the standing spaces with the tonnage length; and the sheet has its 200 places, as every one in the code has
 pub record ResumableSheet (s : Sheet) : Type 0 where
   pub places : length (s .spaces) ≡ 200
-  pub length-in-range : within tonnageLengths (s .length .0) ≡ true
+  pub length-in-range : includes tonnageLengths (s .length .0) ≡ true
   pub resumable : Resumable (s .length) (standing s)
 
 -- and a report with the justified mark is given: so it is written, wherever there is room

@@ -13,7 +13,7 @@ use lib.Dec.{eqb, ltb, lit<}
 use lib.ListN.{length, drop}
 use Rattle.measure.specs.declared.units.Hundredths.{Hundredths}
 use Rattle.measure.specs.Kinds.{kindOf}
-use Rattle.measure.specs.Ranges.{within, tonnageLengths}
+use Rattle.measure.specs.Ranges.{includes, tonnageLengths}
 use Rattle.measure.specs.Refusals.{firstOf}
 use Rattle.measure.specs.Offsets.{inRange, counted as rightlyCounted, measured}
 use Rattle.standard.specs.Rules.{entryTests}
@@ -49,7 +49,7 @@ use Rattle.demands.proofs.Tests.{first-given, lowest-given, spliced, ei
 pub open-refused : (L : Hundredths) → LowestGiven (openTests L) (openedWith L .number)
 unfolding openedWith
 open-refused L =
-    let same : openedWith L .number ≡ firstOf (openTests L) = by-test (within tonnageLengths L.0) (λ t. rw t) (λ f. rw f) in
+    let same : openedWith L .number ≡ firstOf (openTests L) = by-test (includes tonnageLengths L.0) (λ t. rw t) (λ f. rw f) in
     rw same (lowest-given (openTests L) (omega arith))
 
 pub enter-refused : (s : Sheet) (e : Entry) (heights breadths : List ℕ)
@@ -201,13 +201,13 @@ refused-write-gives s justified at buffer refused = let e = ne-eqb _ 0 refused i
 -- "A refused open .. hands back a sheet not open"
 pub refused-open-gives : (L : Hundredths) → (openedWith L .number ≡ 0 → ⊥) → usable (openedWith L .sheet) ≡ false
 unfolding openedWith usable blank
-refused-open-gives L refused = by-test (within tonnageLengths L.0) (λ t. absurd (refused (rw t))) (λ f. rw f)
+refused-open-gives L refused = by-test (includes tonnageLengths L.0) (λ t. absurd (refused (rw t))) (λ f. rw f)
 
 -- and so does a refused `resume`
 pub refused-resume-gives : (L : Hundredths) (records : List Space) → (resumed L records .number ≡ 0 → ⊥) → usable (resumed L records .sheet) ≡ false
 unfolding resumed usable blank
 refused-resume-gives L records refused =
-    by-test (within tonnageLengths L.0)
+    by-test (includes tonnageLengths L.0)
     (λ t. by-test (eqb (firstRefused L [] records .number) 0) (λ u. absurd (refused (rw (t, u)))) (λ f. rw (t, f)))
     (λ f. rw f)
 

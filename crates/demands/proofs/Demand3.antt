@@ -13,7 +13,7 @@ use lib.Dec.{eqb}
 use Rattle.measure.specs.declared.units.Hundredths.{Hundredths}
 use Rattle.spaces.specs.Space.{isPlain}
 use Rattle.spaces.specs.Row.{sumOf}
-use Rattle.standard.specs.Gross.{exempt}
+use Rattle.standard.specs.Gross.{allExempt}
 use Rattle.spaces.specs.declared.space.Space.{Space}
 use Rattle.spaces.specs.declared.sums.Amount.the-variants.{Hull, Deducted}
 use Rattle.spaces.proofs.laws.Cases.{by-test}
@@ -60,7 +60,7 @@ pub neither-above : {s : Sheet} → Reached s → (y z : Space) → y ∈ standi
 neither-above (reached begun calls) = after-any-run begun calls .neither-above
 
 -- "and E + D is not more than T."
-pub taken-off-at-most-whole : {s : Sheet} → Reached s → exempt (standing s) + sumOf Deducted (standing s) ≤ sumOf Hull (standing s)
+pub taken-off-at-most-whole : {s : Sheet} → Reached s → allExempt (standing s) + sumOf Deducted (standing s) ≤ sumOf Hull (standing s)
 taken-off-at-most-whole (reached begun calls) = after-any-run begun calls .taken-off-at-most-whole
 
 -- "and when a report is given, net is neither below zero": "net = gross − D" with nothing cut off

@@ -3,7 +3,7 @@ use Prim.Native.Nat.{ℕ, _+_}
 use mathlib.Core.Path.{_≡_}
 use mathlib.Core.List.{List, [], _∷_, _++_}
 use Rattle.spaces.specs.Row.{sumOf}
-use Rattle.standard.specs.Gross.{exempt}
+use Rattle.standard.specs.Gross.{allExempt}
 use Rattle.spaces.specs.declared.space.Space.{Space}
 use Rattle.spaces.specs.declared.sums.Amount.the-variants.{Deducted}
 use Rattle.spaces_laws.specs.Gross.{GrossLess}
@@ -22,6 +22,6 @@ pub record EnteredLast (s : Sheet) (e : Entry) (heights breadths : List ℕ) : T
 -- "gross and net follow from them": from the recorded tonnages of the spaces xs, with nothing cut off but the excess
 pub record GrossAndNet (xs : List Space) (gross net : ℕ) : Type 0 where
   -- "Let G = T − E. .. Gross = G + excess", part by part
-  pub gross-is : GrossLess (exempt xs) xs gross
+  pub gross-is : GrossLess (allExempt xs) xs gross
   -- "net = gross − D"
   pub net-is : net + sumOf Deducted xs ≡ gross

@@ -7,11 +7,11 @@ use mathlib.Core.Logic.{_↔_}
 use lib.Dec.{eqb, ltb}
 use Rattle.measure.specs.declared.units.Hundredths.{Hundredths}
 use Rattle.measure.specs.Kinds.{kindOf}
-use Rattle.measure.specs.Ranges.{within, tonnageLengths}
+use Rattle.measure.specs.Ranges.{includes, tonnageLengths}
 use Rattle.measure.specs.Offsets.{inRange, counted as rightlyCounted}
 use Rattle.spaces.specs.Row.{sumOf}
 use Rattle.standard.specs.Rules.{entryTests, withdrawTests, markTests}
-use Rattle.standard.specs.Gross.{gross, net, unjustified}
+use Rattle.standard.specs.Gross.{gross, net, needsMark}
 use Rattle.standard.specs.Records.{misrecorded}
 use Rattle.spaces.specs.declared.space.Space.{Space}
 use Rattle.spaces.specs.declared.sums.Amount.the-variants.{Lengths}
@@ -28,7 +28,7 @@ use Rattle.dayfile_laws.specs.Faults.{FirstFault, NoFault}
 
 -- 2: the tonnage length is outside its range
 abbrev pub openTests : Hundredths → List (Bool × ℕ)
-openTests L = (not (within tonnageLengths L.0), 2) ∷ []
+openTests L = (not (includes tonnageLengths L.0), 2) ∷ []
 
 -- 1; 2: its standing, its kind or a measure is outside its range; 3: its offsets are not the number the rules ask; 4 to 10
 abbrev pub enterTests : Sheet → Entry → List ℕ → List ℕ → List (Bool × ℕ)
@@ -61,7 +61,7 @@ abbrev pub lengthsShort : Sheet → Bool
 lengthsShort s = not (eqb (sumOf Lengths (standing s)) (s .length .0))
 
 abbrev pub ballastUnjustified : Sheet → ℕ → Bool
-ballastUnjustified s justified = unjustified (standing s) && eqb justified 0
+ballastUnjustified s justified = needsMark (standing s) && eqb justified 0
 
 -- 1; 2: the justified mark is outside its range; 13, 14
 abbrev pub reportTests : Sheet → ℕ → List (Bool × ℕ)

@@ -9,7 +9,7 @@ use lib.ListN.{length, getD}
 use Rattle.measure.specs.Kinds.{kindOf, isKind}
 use Rattle.measure.specs.Parts.{partsOf, underDeckParts, tableParts, superstructureParts, depthParts}
 use Rattle.measure.specs.Volumes.{CubicFeet, tons, hundredths, underDeckVolume, levelVolume, boxVolume, noVolume}
-use Rattle.measure.specs.Ranges.{within, allWithin, tonnageLengths, lengths, heights, breadths}
+use Rattle.measure.specs.Ranges.{includes, includesAll, tonnageLengths, lengths, heights, breadths}
 use Rattle.measure.specs.Refusals.{firstOf}
 use Rattle.measure.specs.declared.units.Hundredths.{Hundredths}
 use Rattle.measure.specs.declared.kinds.Kind.{Kind}
@@ -19,7 +19,7 @@ use Rattle.measure.specs.declared.offsets.Measured.{Measured}
 -- 2: the kind, the tonnage length, the length and every measure handed in are in their ranges, or it applies
 unfoldable pub inRange : Kind → Hundredths → Hundredths → List ℕ → List ℕ → Bool
 inRange k t l hs bs =
-    isKind k && within tonnageLengths t.0 && within (lengths k) l.0 && allWithin (heights k) hs && allWithin (breadths k) bs
+    isKind k && includes tonnageLengths t.0 && includes (lengths k) l.0 && includesAll (heights k) hs && includesAll (breadths k) bs
 
 -- "One station more than parts." The one length, breadth and height of an H or R count as one station.
 unfoldable pub stations : Kind → Hundredths → Hundredths → ℕ

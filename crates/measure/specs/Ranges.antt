@@ -8,13 +8,13 @@ use Rattle.measure.specs.declared.kinds.Kind.{Kind}
 use Rattle.measure.specs.declared.kinds.Kind.the-variants.{UnderDeck, BetweenDeck, Superstructure, Hatchway, Room, NoKind}
 
 -- from the least to the most, both included
-unfoldable pub within : Range → ℕ → Bool
-within r x = leb (r .least) x && leb x (r .most)
+unfoldable pub includes : Range → ℕ → Bool
+includes r x = leb (r .least) x && leb x (r .most)
 
 -- every measure of a list
-abbrev pub allWithin : Range → List ℕ → Bool
-allWithin r [] = true
-allWithin r (x ∷ xs) = within r x && allWithin r xs
+abbrev pub includesAll : Range → List ℕ → Bool
+includesAll r [] = true
+includesAll r (x ∷ xs) = includes r x && includesAll r xs
 
 -- "Tonnage length, U and B length: 100 to 150,000."
 abbrev pub tonnageLengths : Range

@@ -7,9 +7,9 @@ use crate::parts::of_depth;
 use crate::parts::of_kind;
 use crate::parts::of_superstructure;
 use crate::parts::of_under_deck;
-use crate::ranges::all_within;
 use crate::ranges::breadths as breadth_range;
 use crate::ranges::heights as height_range;
+use crate::ranges::includes_all;
 use crate::ranges::length_fits;
 use crate::ranges::tonnage_length_fits;
 use crate::refusals::NOT_THE_NUMBER_ASKED;
@@ -98,10 +98,10 @@ fn in_range(
     if !length_fits(kind, length) {
         return false;
     }
-    if !all_within(height_range(kind), heights) {
+    if !includes_all(height_range(kind), heights) {
         return false;
     }
-    all_within(breadth_range(kind), breadths)
+    includes_all(breadth_range(kind), breadths)
 }
 
 // There are as many heights and breadths as the rules ask.

@@ -2,7 +2,7 @@
 use crate::kinds::Kind;
 use crate::units::Hundredths;
 ghost use mathlib.Core.Path.{_≡_};
-ghost use Rattle.measure.specs.Ranges.{within as withinOf, allWithin, leastOffset, tonnageLengths, otherLengths, lengths as lengthsOf, heights as heightsOf, breadths as breadthsOf};
+ghost use Rattle.measure.specs.Ranges.{includes as includesOf, includesAll, leastOffset, tonnageLengths, otherLengths, lengths as lengthsOf, heights as heightsOf, breadths as breadthsOf};
 
 // From the least to the most, both included.
 pub struct Range {
@@ -81,8 +81,8 @@ fn least_offset(kind: Kind) -> u32
     }
 }
 
-fn within(range: Range, x: u32) -> bool
-    ensures { λ r. ⌜ r ≡ withinOf range x ⌝ }
+fn includes(range: Range, x: u32) -> bool
+    ensures { λ r. ⌜ r ≡ includesOf range x ⌝ }
 {
     if x < range.least {
         return false;
@@ -90,12 +90,12 @@ fn within(range: Range, x: u32) -> bool
     x <= range.most
 }
 
-pub(crate) fn all_within(range: Range, xs: &[u32]) -> bool
-    ensures { λ r. ⌜ r ≡ allWithin range (now (xs .entry)) ⌝ }
+pub(crate) fn includes_all(range: Range, xs: &[u32]) -> bool
+    ensures { λ r. ⌜ r ≡ includesAll range (now (xs .entry)) ⌝ }
 {
     let mut i = 0;
     while i < xs.len() {
-        if !within(range, xs[i]) {
+        if !includes(range, xs[i]) {
             return false;
         }
         i += 1;
@@ -105,14 +105,14 @@ pub(crate) fn all_within(range: Range, xs: &[u32]) -> bool
 
 // Whether a tonnage length is in its range.
 pub fn tonnage_length_fits(length: Hundredths) -> bool
-    ensures { λ r. ⌜ r ≡ withinOf tonnageLengths (length .0) ⌝ }
+    ensures { λ r. ⌜ r ≡ includesOf tonnageLengths (length .0) ⌝ }
 {
-    within(tonnage_lengths(), length.0)
+    includes(tonnage_lengths(), length.0)
 }
 
 // Whether the length of a space of this kind is in its range.
 pub fn length_fits(kind: Kind, length: Hundredths) -> bool
-    ensures { λ r. ⌜ r ≡ withinOf (lengthsOf kind) (length .0) ⌝ }
+    ensures { λ r. ⌜ r ≡ includesOf (lengthsOf kind) (length .0) ⌝ }
 {
-    within(lengths(kind), length.0)
+    includes(lengths(kind), length.0)
 }

@@ -8,7 +8,7 @@ use Rattle.measure.specs.Parts.{tableParts, stepParts, underDeckParts, depthPar
 use Rattle.measure.specs.Thirds.{thirdOfLength, thirdOfDepth}
 use Rattle.measure.specs.Multipliers.{multiplier, weighted}
 use Rattle.measure.specs.Volumes.{tons, hundredths, stationArea, underDeckVolume, levelVolume, boxVolume}
-use Rattle.measure.specs.Ranges.{within}
+use Rattle.measure.specs.Ranges.{includes}
 use Rattle.measure.specs.Offsets.{inRange, stations, middleOf, counted, tonnage, measured, answered}
 use Rattle.measure.specs.Allowances.{hatchwayAllowance, hatchwayExcess, ballastOver}
 
@@ -32,7 +32,7 @@ pub record Figures : Type 0 where
   pub ballast : (ballastOver 300 1000 ≡ false) × (ballastOver 301 1000 ≡ true)
 
 pub figures : Figures
-unfolding kindOf nearest tableParts stepParts underDeckParts depthParts distance nearer nearestParts superstructureParts thirdOfLength thirdOfDepth multiplier weighted tons stationArea underDeckVolume levelVolume boxVolume within inRange stations middleOf counted tonnage measured hatchwayAllowance hatchwayExcess ballastOver
+unfolding kindOf nearest tableParts stepParts underDeckParts depthParts distance nearer nearestParts superstructureParts thirdOfLength thirdOfDepth multiplier weighted tons stationArea underDeckVolume levelVolume boxVolume includes inRange stations middleOf counted tonnage measured hatchwayAllowance hatchwayExcess ballastOver
 figures =
     record {
       table-5000 = (refl, refl);

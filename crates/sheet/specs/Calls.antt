@@ -4,7 +4,7 @@ use mathlib.Core.Bool.{true, false, cond, not, _&&_}
 use mathlib.Core.List.{List, [], _∷_}
 use lib.Dec.{eqb, ltb}
 use lib.ListN.{getD}
-use Rattle.measure.specs.Ranges.{within, tonnageLengths}
+use Rattle.measure.specs.Ranges.{includes, tonnageLengths}
 use Rattle.measure.specs.Refusals.{firstOf}
 use Rattle.measure.specs.Volumes.{hundredths}
 use Rattle.measure.specs.Offsets.{measured}
@@ -12,7 +12,7 @@ use Rattle.measure.specs.declared.units.Hundredths.{Hundredths}
 use Rattle.measure.specs.declared.offsets.Measured.{Measured}
 use Rattle.spaces.specs.Row.{find, placeOf, spaceWith, sumOf}
 use Rattle.standard.specs.Rules.{entryTests, withdrawTests, markTests}
-use Rattle.standard.specs.Gross.{gross, net, unjustified}
+use Rattle.standard.specs.Gross.{gross, net, needsMark}
 use Rattle.spaces.specs.declared.space.Space.{Space}
 use Rattle.spaces.specs.declared.sums.Amount.the-variants.{Lengths}
 use Rattle.sheet.specs.Sheet.{standing, usable, changeOf, noChange, blank}
@@ -28,7 +28,7 @@ use Rattle.sheet.specs.declared.calls.Reported.{Reported}
 -- "A sheet is opened with the tonnage length." "A refused open .. hands back a sheet not open."
 unfoldable pub openedWith : Hundredths → Changed
 openedWith length =
-    cond (within tonnageLengths length.0)
+    cond (includes tonnageLengths length.0)
     (record { number = 0; sheet = blank true length })
     (record { number = 2; sheet = blank false (hundredths 0) })
 
@@ -131,7 +131,7 @@ reportNumber s justified =
     -- 13: U lengths don't add up to the tonnage length
     ∷ (not (eqb (sumOf Lengths (standing s)) (s .length .0)), 13)
     -- 14: ballast over 30%, not justified
-    ∷ (unjustified (standing s) && eqb justified 0, 14)
+    ∷ (needsMark (standing s) && eqb justified 0, 14)
     ∷ [])
 
 -- "A refused report gives 0 and 0", and no report changes the sheet

@@ -4,7 +4,7 @@ use mathlib.Core.Bool.{cond}
 use mathlib.Core.List.{List, [], _∷_, _++_}
 use lib.Dec.{leb}
 use lib.ListN.{length, take, drop, getD, set}
-use Rattle.spaces.specs.Space.{emptySpace}
+use Rattle.spaces.specs.Space.{emptySpace, restanding}
 use Rattle.spaces.specs.declared.space.Space.{Space}
 use Rattle.sheet.specs.Sheet.{standing, kept}
 use Rattle.sheet.specs.declared.changes.Change.{Change}
@@ -27,10 +27,6 @@ abbrev pub inserted : ℕ → Space → List Space → List Space
 inserted p x xs = take p xs ++ x ∷ drop p xs
 
 -- the space at a place with another standing
-abbrev pub restanding : ℕ → Space → Space
-restanding standing x =
-    record { id = x .id; within = x .within; kind = x .kind; standing = standing; tonnage = x .tonnage; length = x .length }
-
 abbrev pub restood : ℕ → ℕ → List Space → List Space
 restood p standing xs = set xs p (restanding standing (getD xs p emptySpace))
 

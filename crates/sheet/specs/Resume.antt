@@ -4,7 +4,7 @@ use Prim.Native.Nat.{ℕ}
 use mathlib.Core.Bool.{true, false, cond}
 use mathlib.Core.List.{List, []}
 use lib.Dec.{eqb}
-use Rattle.measure.specs.Ranges.{within, tonnageLengths}
+use Rattle.measure.specs.Ranges.{includes, tonnageLengths}
 use Rattle.measure.specs.Volumes.{hundredths}
 use Rattle.measure.specs.declared.units.Hundredths.{Hundredths}
 use Rattle.standard.specs.Records.{firstRefused}
@@ -23,6 +23,6 @@ refused number position = record { number = number; position = position; sheet =
 unfoldable pub resumed : Hundredths → List Space → Resumed
 resumed L records =
     let r = firstRefused L [] records in
-    cond (within tonnageLengths L.0)
+    cond (includes tonnageLengths L.0)
     (cond (eqb (r .number) 0) (sheetOf L records) (refused (r .number) (r .position)))
     (refused 2 0)

@@ -1,11 +1,16 @@
 // The calls on a sheet. Each answers the paper's number, 0 where accepted, its values, and the sheet after it; a refused
 // change, undo or redo hands back the sheet as it came.
 use crate::changes::Change;
+use crate::refusals::LENGTHS_SHORT;
+use crate::refusals::NOT_JUSTIFIED;
+use crate::refusals::NOT_OPEN;
+use crate::refusals::NOTHING_OPEN;
 use crate::sheet::Sheet;
+use measure::kinds::ROOM;
 use measure::offsets::measure_offsets;
 use measure::ranges::tonnage_length_fits;
+use measure::refusals::OUTSIDE_ITS_RANGE;
 use measure::units::Hundredths;
-use spaces::space::ROOM;
 use spaces::space::Space;
 use standard::gross::reckon;
 use standard::rules::entry_number;
@@ -76,7 +81,7 @@ impl Sheet {
     {
         if !tonnage_length_fits(length) {
             return Changed {
-                number: 2,
+                number: OUTSIDE_ITS_RANGE,
                 sheet: Sheet::blank(false, Hundredths(0)),
             };
         }
@@ -92,13 +97,13 @@ impl Sheet {
     {
         if !self.usable() {
             return Changed {
-                number: 1,
+                number: NOT_OPEN,
                 sheet: self,
             };
         }
         if 3 < entry.standing {
             return Changed {
-                number: 2,
+                number: OUTSIDE_ITS_RANGE,
                 sheet: self,
             };
         }
@@ -133,7 +138,7 @@ impl Sheet {
     {
         if !self.usable() {
             return Changed {
-                number: 1,
+                number: NOT_OPEN,
                 sheet: self,
             };
         }
@@ -161,13 +166,13 @@ impl Sheet {
     {
         if !self.usable() {
             return Changed {
-                number: 1,
+                number: NOT_OPEN,
                 sheet: self,
             };
         }
         if 3 < standing {
             return Changed {
-                number: 2,
+                number: OUTSIDE_ITS_RANGE,
                 sheet: self,
             };
         }
@@ -195,14 +200,14 @@ impl Sheet {
     {
         if !self.usable() {
             return Changed {
-                number: 1,
+                number: NOT_OPEN,
                 sheet: self,
             };
         }
         let n = self.undoable;
         if n == 0 {
             return Changed {
-                number: 12,
+                number: NOTHING_OPEN,
                 sheet: self,
             };
         }
@@ -225,14 +230,14 @@ impl Sheet {
     {
         if !self.usable() {
             return Changed {
-                number: 1,
+                number: NOT_OPEN,
                 sheet: self,
             };
         }
         let m = self.redoable;
         if m == 0 {
             return Changed {
-                number: 12,
+                number: NOTHING_OPEN,
                 sheet: self,
             };
         }
@@ -272,18 +277,18 @@ impl Sheet {
         ensures { λ r. ⌜ r ≡ reported self justified ⌝ }
     {
         if !self.usable() {
-            return self.unreported(1);
+            return self.unreported(NOT_OPEN);
         }
         if 1 < justified {
-            return self.unreported(2);
+            return self.unreported(OUTSIDE_ITS_RANGE);
         }
         let spaces = self.spaces;
         let r = reckon(spaces, self.count);
         if r.lengths != self.length.0 as u64 {
-            return self.unreported(13);
+            return self.unreported(LENGTHS_SHORT);
         }
-        if needs_mark(r.unjustified, justified) {
-            return self.unreported(14);
+        if unjustified(r.needs_mark, justified) {
+            return self.unreported(NOT_JUSTIFIED);
         }
         Reported {
             number: 0,
@@ -307,10 +312,10 @@ impl Sheet {
 }
 
 // Ballast over 30%, and not justified.
-fn needs_mark(over: bool, justified: u8) -> bool
-    ensures { λ r. ⌜ r ≡ (over && eqb justified 0) ⌝ }
+fn unjustified(needs_mark: bool, justified: u8) -> bool
+    ensures { λ r. ⌜ r ≡ («needs_mark» && eqb justified 0) ⌝ }
 {
-    if over {
+    if needs_mark {
         return justified == 0;
     }
     false

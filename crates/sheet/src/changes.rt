@@ -3,6 +3,7 @@ use crate::row::with_latest;
 use crate::row::with_place;
 use crate::row::without_place;
 use crate::sheet::Sheet;
+use spaces::row::PLACES;
 use spaces::row::lesser;
 use spaces::space::Space;
 use spaces::space::empty;
@@ -139,7 +140,7 @@ impl Sheet {
         ensures { λ r. ⌜ r ≡ fitted (inserted p x (standingOf self)) self ⌝ }
     {
         let count = self.count;
-        if 200 <= count {
+        if PLACES <= count {
             return self;
         }
         let spaces = self.spaces;

@@ -3,6 +3,7 @@
 use crate::row::with_first;
 use crate::sheet::Sheet;
 use measure::ranges::tonnage_length_fits;
+use measure::refusals::OUTSIDE_ITS_RANGE;
 use measure::units::Hundredths;
 use spaces::row::used;
 use spaces::space::Space;
@@ -41,7 +42,7 @@ impl Sheet {
     {
         if !tonnage_length_fits(length) {
             return Resumed {
-                number: 2,
+                number: OUTSIDE_ITS_RANGE,
                 position: 0,
                 sheet: Sheet::blank(false, Hundredths(0)),
             };

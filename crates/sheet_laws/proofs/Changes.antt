@@ -8,13 +8,13 @@ use lib.ListN.{length, take, drop, getD, set, length-append}
 use lib.Seq.{length-take-le, take-at, drop-at, split-at, set-set, set-getD, getD-set-same}
 use Rattle.measure.specs.declared.units.Hundredths.{Hundredths}
 use Rattle.spaces.specs.declared.space.Space.{Space}
-use Rattle.spaces.specs.Space.{emptySpace}
+use Rattle.spaces.specs.Space.{emptySpace, restanding}
 use Rattle.spaces.specs.Row.{find, placeOf, spaceWith}
 use Rattle.standard.specs.Valid.{Valid}
 use Rattle.spaces.proofs.laws.Places.{placed}
 use Rattle.spaces_laws.specs.Changes.{without, marked}
 use Rattle.spaces_laws.proofs.Places.{without-by-place, marked-by-place}
-use Rattle.sheet.specs.Changes.{removed, inserted, restanding, restood}
+use Rattle.sheet.specs.Changes.{removed, inserted, restood}
 use Rattle.sheet.specs.declared.changes.Change.the-variants.{Entered, Withdrawn, Marked}
 use Rattle.sheet_laws.specs.Run.{spaceEntered, idWithdrawn, idMarked}
 use Rattle.sheet_laws.proofs.Undoable.{Leads}

@@ -9,7 +9,7 @@ use native.Mathlib.Omega.{arith}
 use borrow.Author.Tests.{eqb-true, eqb-false, eq-eqb, le-ltb}
 use lib.Dec.{eqb}
 use Rattle.measure.specs.Kinds.{kindOf, isKind}
-use Rattle.measure.specs.Ranges.{within, allWithin, tonnageLengths, lengths, heights, breadths}
+use Rattle.measure.specs.Ranges.{includes, includesAll, tonnageLengths, lengths, heights, breadths}
 use Rattle.measure.specs.Offsets.{inRange, measured}
 use Rattle.measure.specs.declared.units.Hundredths.{Hundredths}
 use Rattle.measure.proofs.laws.Tests.{and-left, and-right}
@@ -71,7 +71,7 @@ resumable-exactly L xs = (
 pub opened-of-records : (L : Hundredths) → openedWith L .number ≡ 0 → OfRecords L [] (openedWith L .sheet)
 unfolding openedWith blank
 opened-of-records L z =
-    by-test (within tonnageLengths L.0)
+    by-test (includes tonnageLengths L.0)
     (λ t. record { length-in-range = t; resumable = resumable-exactly L [] .0 refl; sheet-is = rw t })
     (λ f. let two : _≡_ {A = ℕ} 2 0 = rw f at z in absurd (omega arith))
 
@@ -79,7 +79,7 @@ opened-of-records L z =
 pub resumed-of-records : (L : Hundredths) (records : List Space) → resumed L records .number ≡ 0 → OfRecords L records (resumed L records .sheet)
 unfolding resumed
 resumed-of-records L records z =
-    by-test (within tonnageLengths L.0)
+    by-test (includes tonnageLengths L.0)
     (λ t.
     by-test (eqb (firstRefused L [] records .number) 0)
     (λ u. record { length-in-range = t; resumable = resumable-exactly L records .0 (eqb-true _ _ u); sheet-is = rw (t, u) })
@@ -131,9 +131,9 @@ entry-well-recorded t e hs bs none =
     let l = e .length in
     let m = measured (e .kind) t l hs bs in
     let ranged : inRange k t l hs bs ≡ true = measured-exactly (e .kind) t l hs bs .only-0 none .0 in
-    let measures = and-left _ (allWithin (breadths k) bs) ranged in
-    let both = and-left _ (allWithin (heights k) hs) measures in
-    let long : within (lengths k) (e .length .0) ≡ true = and-right (isKind k && within tonnageLengths t.0) (within (lengths k) (e .length .0)) both in
+    let measures = and-left _ (includesAll (breadths k) bs) ranged in
+    let both = and-left _ (includesAll (heights k) hs) measures in
+    let long : includes (lengths k) (e .length .0) ≡ true = and-right (isKind k && includes tonnageLengths t.0) (includes (lengths k) (e .length .0)) both in
     or-fails-of _ _
     (or-fails-of _ _ (le-ltb _ _ (measured-at-most (e .kind) t l hs bs)) (ap not long))
     (by-test (eqb (e .kind) 5) (λ r. rw r) (λ r. rw r))

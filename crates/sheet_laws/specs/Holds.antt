@@ -7,7 +7,7 @@ use lib.ListN.{length}
 use Rattle.measure.specs.declared.units.Hundredths.{Hundredths}
 use Rattle.spaces.specs.Space.{isPlain}
 use Rattle.spaces.specs.Row.{sumOf}
-use Rattle.standard.specs.Gross.{exempt, gross}
+use Rattle.standard.specs.Gross.{allExempt, gross}
 use Rattle.spaces.specs.declared.space.Space.{Space}
 use Rattle.spaces.specs.declared.sums.Amount.the-variants.{Hull, Deducted}
 use Rattle.spaces_laws.specs.Above.{_∈_, Above}
@@ -56,7 +56,7 @@ pub record Holds (L : Hundredths) (start : List Space) (s : Sheet) (log : Log) (
   -- more than T"
   pub neither-above : (y z : Space) → y ∈ standing s → z ∈ standing s → isPlain y ≡ false → isPlain z ≡ false
       → (Above (standing s) y z → ⊥) × (Above (standing s) z y → ⊥)
-  pub taken-off-at-most-whole : exempt (standing s) + sumOf Deducted (standing s) ≤ sumOf Hull (standing s)
+  pub taken-off-at-most-whole : allExempt (standing s) + sumOf Deducted (standing s) ≤ sumOf Hull (standing s)
   -- "when a report is given, net is neither below zero nor above gross"
   pub report-within : (justified : ℕ) → reported s justified .number ≡ 0 → Within (standing s) (reported s justified)
 

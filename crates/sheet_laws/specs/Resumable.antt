@@ -3,7 +3,7 @@ use mathlib.Core.Path.{_≡_}
 use mathlib.Core.Bool.{true, false}
 use mathlib.Core.List.{List}
 use Rattle.measure.specs.declared.units.Hundredths.{Hundredths}
-use Rattle.measure.specs.Ranges.{within, tonnageLengths}
+use Rattle.measure.specs.Ranges.{includes, tonnageLengths}
 use Rattle.standard.specs.Records.{misrecorded}
 use Rattle.standard.specs.Valid.{Valid}
 use Rattle.spaces.specs.declared.space.Space.{Space}
@@ -19,6 +19,6 @@ pub record Resumable (L : Hundredths) (xs : List Space) : Type 0 where
 
 -- a sheet of recorded spaces, on which no change is open yet
 pub record OfRecords (L : Hundredths) (records : List Space) (s : Sheet) : Type 0 where
-  pub length-in-range : within tonnageLengths L.0 ≡ true
+  pub length-in-range : includes tonnageLengths L.0 ≡ true
   pub resumable : Resumable L records
   pub sheet-is : s ≡ withStanding records (blank true L)

@@ -1,4 +1,5 @@
 -- A space as its record has it ("Spaces").
+use Prim.Native.Nat.{ℕ}
 use mathlib.Core.Bool.{Bool, _||_}
 use lib.Dec.{eqb}
 use Rattle.spaces.specs.declared.space.Space.{Space}
@@ -24,3 +25,8 @@ isHull x = eqb (x .kind) 1 || eqb (x .kind) 2 || eqb (x .kind) 3
 -- "0 plain, 1 exempt, 2 exempt as water ballast, 3 deducted"
 abbrev pub isPlain : Space → Bool
 isPlain x = eqb (x .standing) 0
+
+-- a space with another standing, and all else as it was
+abbrev pub restanding : ℕ → Space → Space
+restanding standing x =
+    record { id = x .id; within = x .within; kind = x .kind; standing = standing; tonnage = x .tonnage; length = x .length }

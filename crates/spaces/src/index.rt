@@ -1,7 +1,7 @@
 // The places of ids, found by an index instead of a search: for each id the place at which it stands. Numbers may be lent, so
 // nothing is copied; the ids stand in a row of their own.
-use crate::space::ROOM;
 use crate::space::Space;
+use measure::kinds::ROOM;
 ghost use mathlib.Core.Path.{_≡_};
 ghost use Prim.Native.Nat.{_≤_};
 ghost use lib.ListN.{length, take, replicate};

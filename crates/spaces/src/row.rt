@@ -5,6 +5,9 @@ ghost use Prim.Native.Nat.{min};
 ghost use lib.ListN.{take};
 ghost use Rattle.spaces.specs.Row.{find as findIn, placeOf, stands as standsIn, foundAs, used as usedOf};
 
+// Places for spaces on a sheet.
+pub const PLACES: usize = 200;
+
 // The space with an id, if it stands.
 pub enum Found {
     At(Space),
@@ -25,7 +28,7 @@ pub fn lesser(a: usize, b: usize) -> usize
 pub fn used(count: usize) -> usize
     ensures { λ r. ⌜ r ≡ usedOf count ⌝ }
 {
-    lesser(count, 200)
+    lesser(count, PLACES)
 }
 
 pub fn find(spaces: [Space; 200], count: usize, id: u16) -> Found

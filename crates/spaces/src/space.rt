@@ -15,17 +15,6 @@ pub struct Space {
     pub length: Hundredths,
 }
 
-// The codes of the kinds that the rules name.
-pub const UNDER_DECK: u8 = 1;
-
-pub const BETWEEN_DECK: u8 = 2;
-
-pub const SUPERSTRUCTURE: u8 = 3;
-
-pub const HATCHWAY: u8 = 4;
-
-pub const ROOM: u8 = 5;
-
 // The record of a free place.
 pub fn empty() -> Space
     ensures { λ r. ⌜ r ≡ emptySpace ⌝ }

@@ -1,11 +1,11 @@
 // The sums that the paper takes over the standing spaces: what a space adds to each, one sum, and those of a report at once.
 use crate::row::used;
-use crate::space::BETWEEN_DECK;
-use crate::space::HATCHWAY;
-use crate::space::ROOM;
-use crate::space::SUPERSTRUCTURE;
 use crate::space::Space;
-use crate::space::UNDER_DECK;
+use measure::kinds::BETWEEN_DECK;
+use measure::kinds::HATCHWAY;
+use measure::kinds::ROOM;
+use measure::kinds::SUPERSTRUCTURE;
+use measure::kinds::UNDER_DECK;
 ghost use mathlib.Core.Path.{_≡_};
 ghost use mathlib.Core.Bool.{_&&_};
 ghost use Prim.Native.Nat.{_≤_, _<_, _^_};

@@ -11,14 +11,14 @@ use lib.Dec.{eqb}
 use lib.ListN.{length, getD, take, drop, set}
 use Rattle.measure.specs.declared.units.Hundredths.{Hundredths}
 use Rattle.spaces.specs.declared.space.Space.{Space}
-use Rattle.spaces.specs.Space.{emptySpace}
+use Rattle.spaces.specs.Space.{emptySpace, restanding}
 use Rattle.spaces.specs.Row.{find, placeOf}
 use Rattle.standard.specs.Rules.{withdrawNumber, markNumber}
 use Rattle.standard.specs.Valid.{ValidFrom, done, next, Valid}
 use Rattle.spaces.proofs.laws.Cases.{by-test, none-not-some}
 use Rattle.spaces_laws.proofs.Lists.{member-at, find-here, find-further, find-before, find-behind, unfound-absent}
 use Rattle.spaces_laws.proofs.Entry.{facts-of-entry}
-use Rattle.spaces_laws.specs.Changes.{restanding, without, marked}
+use Rattle.spaces_laws.specs.Changes.{without, marked}
 use Rattle.spaces_laws.proofs.Withdraw.{withdrawal-by-id-keeps-valid}
 use Rattle.spaces_laws.proofs.Mark.{mark-by-id-keeps-valid}
 

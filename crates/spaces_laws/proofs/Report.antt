@@ -16,7 +16,7 @@ use Rattle.measure_laws.proofs.Rounding.{nearest-is, nearest-only}
 use Rattle.spaces.specs.declared.space.Space.{Space}
 use Rattle.spaces.specs.declared.sums.Amount.the-variants.{Hull, Hatchways, Exempt, Ballast}
 use Rattle.spaces.specs.Row.{amountOf, sumOf}
-use Rattle.standard.specs.Gross.{exempt, grossOver, gross, net, unjustified}
+use Rattle.standard.specs.Gross.{allExempt, grossOver, gross, net, needsMark}
 use Rattle.standard.specs.Valid.{Valid}
 use Rattle.spaces_laws.specs.Above.{_∈_}
 use Rattle.spaces_laws.specs.Gross.{Exact, GrossLess, OverThirtyPercent}
@@ -57,17 +57,17 @@ gross-less-only {off} {xs} {gross} r =
     ∙ ap (λ (n : ℕ). r .g + (sumOf Hatchways xs - n)) (sym allowance)
     ∙ ap (λ (n : ℕ). n + (sumOf Hatchways xs - nearest n 200)) g
 
-pub gross-exactly : {L : Hundredths} {xs : List Space} → Valid L xs → (n : ℕ) → (gross xs ≡ n) ↔ GrossLess (exempt xs) xs n
+pub gross-exactly : {L : Hundredths} {xs : List Space} → Valid L xs → (n : ℕ) → (gross xs ≡ n) ↔ GrossLess (allExempt xs) xs n
 unfolding gross
 gross-exactly {L} {xs} v n = (
-  λ e. subst (GrossLess (exempt xs) xs) e (gross-less-is (exempt xs) xs (omega (arith, taken-off-at-most-whole v))),
+  λ e. subst (GrossLess (allExempt xs) xs) e (gross-less-is (allExempt xs) xs (omega (arith, taken-off-at-most-whole v))),
   λ r. sym (gross-less-only r),
 )
 
 -- "If standing 2 adds up to more than 30% of it"
-pub unjustified-exactly : {L : Hundredths} {xs : List Space} → Valid L xs → (unjustified xs ≡ true) ↔ OverThirtyPercent xs
-unfolding unjustified ballastOver
-unjustified-exactly {L} {xs} v =
+pub needs-mark-exactly : {L : Hundredths} {xs : List Space} → Valid L xs → (needsMark xs ≡ true) ↔ OverThirtyPercent xs
+unfolding needsMark ballastOver
+needs-mark-exactly {L} {xs} v =
     let off = sumOf Exempt xs in
     let told = grossOver (sumOf Hull xs - off) (sumOf Hatchways xs) in (
       λ t.
@@ -101,8 +101,8 @@ gross-over-bounded {L} {xs} v most g h =
 
 pub gross-at-most-whole : (xs : List Space) → gross xs ≤ sumOf Hull xs + sumOf Hatchways xs
 unfolding gross
-gross-at-most-whole xs = gross-over-at-most-whole (sumOf Hull xs - exempt xs) xs (omega arith)
+gross-at-most-whole xs = gross-over-at-most-whole (sumOf Hull xs - allExempt xs) xs (omega arith)
 
 pub gross-bounded : {L : Hundredths} {xs : List Space} → Valid L xs → ((y : Space) → y ∈ xs → y .tonnage ≤ mostTons) → gross xs ≤ 200 * mostTons
 unfolding gross
-gross-bounded {L} {xs} v most = gross-over-bounded v most (sumOf Hull xs - exempt xs) (omega arith)
+gross-bounded {L} {xs} v most = gross-over-bounded v most (sumOf Hull xs - allExempt xs) (omega arith)

@@ -14,7 +14,7 @@ use Rattle.spaces.specs.declared.sums.Amount.the-variants.{Inside, Hull, Exempt
 use Rattle.spaces.specs.Space.{isHatchway, isRoom, isPlain}
 use Rattle.spaces.specs.Row.{only, amountOf, sumBy, sumOf}
 use Rattle.spaces.specs.Enclosure.{enclosing, above, allPlain, below}
-use Rattle.standard.specs.Gross.{exempt}
+use Rattle.standard.specs.Gross.{allExempt}
 use Rattle.standard.specs.Valid.{Valid}
 use Rattle.spaces.proofs.laws.Cases.{by-test, not-both}
 use Rattle.spaces_laws.specs.Above.{_∈_, Above}
@@ -154,7 +154,7 @@ taken-once standing n =
     (λ n2. by-test (eqb standing 3) (λ e. rw (eqb-true standing 3 e) (omega arith)) (λ n3. rw (n1, n2, n3) (omega arith))))
 
 -- "E + D is not more than T"
-pub taken-off-at-most-whole : {L : Hundredths} {xs : List Space} → Valid L xs → exempt xs + sumOf Deducted xs ≤ sumOf Hull xs
+pub taken-off-at-most-whole : {L : Hundredths} {xs : List Space} → Valid L xs → allExempt xs + sumOf Deducted xs ≤ sumOf Hull xs
 taken-off-at-most-whole {L} {xs} v =
     omega (
       arith,

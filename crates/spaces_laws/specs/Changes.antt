@@ -4,12 +4,8 @@ use Prim.Native.Nat.{ℕ}
 use mathlib.Core.Bool.{cond}
 use mathlib.Core.List.{List, [], _∷_, map}
 use lib.Dec.{eqb}
+use Rattle.spaces.specs.Space.{restanding}
 use Rattle.spaces.specs.declared.space.Space.{Space}
-
--- a space with another standing, and all else as it was
-abbrev pub restanding : ℕ → Space → Space
-restanding standing x =
-    record { id = x .id; within = x .within; kind = x .kind; standing = standing; tonnage = x .tonnage; length = x .length }
 
 -- "withdraw": the spaces without the one with an id, the others in their order
 abbrev pub without : ℕ → List Space → List Space

@@ -4,13 +4,13 @@ use mathlib.Core.Path.{_≡_}
 use mathlib.Core.List.{List}
 use Rattle.measure.specs.Rounding.{Nearest}
 use Rattle.spaces.specs.Row.{sumOf}
-use Rattle.standard.specs.Gross.{exempt, gross, net}
+use Rattle.standard.specs.Gross.{allExempt, gross, net}
 use Rattle.spaces.specs.declared.space.Space.{Space}
 use Rattle.spaces.specs.declared.sums.Amount.the-variants.{Hull, Hatchways, Exempt, Ballast, Deducted}
 
 -- each difference of the report, added up again
 pub record Exact (xs : List Space) : Type 0 where
-  pub whole-less-exempt : (sumOf Hull xs - exempt xs) + exempt xs ≡ sumOf Hull xs
+  pub whole-less-exempt : (sumOf Hull xs - allExempt xs) + allExempt xs ≡ sumOf Hull xs
   pub gross-less-deducted : net xs + sumOf Deducted xs ≡ gross xs
 
 -- the gross of the spaces xs with so much of T taken off

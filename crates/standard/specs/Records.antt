@@ -6,7 +6,7 @@ use mathlib.Core.List.{List, [], _∷_, _++_}
 use lib.Dec.{eqb, ltb}
 use lib.ListN.{length}
 use Rattle.measure.specs.Kinds.{kindOf}
-use Rattle.measure.specs.Ranges.{within, lengths}
+use Rattle.measure.specs.Ranges.{includes, lengths}
 use Rattle.measure.specs.Refusals.{firstOf}
 use Rattle.measure.specs.declared.units.Hundredths.{Hundredths}
 use Rattle.spaces.specs.Space.{isRoom}
@@ -19,7 +19,7 @@ use Rattle.standard.specs.declared.records.RefusedRecord.{RefusedRecord}
 abbrev pub misrecorded : Space → Bool
 misrecorded x =
     ltb 100000000 (x .tonnage)
-    || not (within (lengths (kindOf (x .kind))) (x .length .0))
+    || not (includes (lengths (kindOf (x .kind))) (x .length .0))
     || (not (isRoom x) && not (eqb (x .within) 0))
 
 -- the number with which a record is refused after the spaces xs, where L is the tonnage length

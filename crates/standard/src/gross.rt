@@ -14,7 +14,7 @@ pub struct Reckoning {
     pub lengths: u64,
     pub gross: u64,
     pub net: u64,
-    pub unjustified: bool,
+    pub needs_mark: bool,
 }
 
 pub fn reckon(spaces: [Space; 200], count: usize) -> Reckoning
@@ -24,12 +24,12 @@ pub fn reckon(spaces: [Space; 200], count: usize) -> Reckoning
     let gross = gross_over(less(sums.hull, sums.exempt + sums.ballast), sums.hatchways);
     let net = less(gross, sums.deducted);
     let with_ballast = gross_over(less(sums.hull, sums.exempt), sums.hatchways);
-    let unjustified = ballast_over(sums.ballast, with_ballast);
+    let needs_mark = ballast_over(sums.ballast, with_ballast);
     Reckoning {
         lengths: sums.lengths,
         gross,
         net,
-        unjustified,
+        needs_mark,
     }
 }
 

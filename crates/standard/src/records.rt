@@ -1,15 +1,16 @@
 // Recorded spaces judged one after another, each as an entry with its recorded tonnage and length after those before it.
 use crate::rules::found_if;
 use crate::rules::judged;
+use measure::kinds::ROOM;
 use measure::kinds::kind_of;
 use measure::ranges::length_fits;
+use measure::refusals::OUTSIDE_ITS_RANGE;
 use measure::units::Hundredths;
 use spaces::around::Around;
 use spaces::around::around_each;
 use spaces::row::Found;
 use spaces::row::lesser;
 use spaces::row::used;
-use spaces::space::ROOM;
 use spaces::space::Space;
 ghost use mathlib.Core.Path.{_≡_};
 ghost use mathlib.Core.Bool.{cond, false};
@@ -25,7 +26,7 @@ pub struct RefusedRecord {
 }
 
 // The greatest tonnage that a record holds, in hundredths of a ton.
-const GREATEST_TONNAGE: u32 = 100_000_000;
+pub const GREATEST_TONNAGE: u32 = 100_000_000;
 
 // A record whose own numbers no entry could have: a kind or number outside its range, or an enclosing id where there may
 // be none.
@@ -50,7 +51,7 @@ fn record_number(x: Space, tonnage_length: Hundredths, found: Found, around: Aro
     ensures { λ r. ⌜ r ≡ cond (misrecordedOf x) 2 (judgedNumber «tonnage_length» x (searched found) around false) ⌝ }
 {
     if misrecorded(x) {
-        return 2;
+        return OUTSIDE_ITS_RANGE;
     }
     judged(x, tonnage_length, found, around, false)
 }

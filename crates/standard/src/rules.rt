@@ -9,6 +9,9 @@ use crate::refusals::OFF_TWICE;
 use crate::refusals::OVERFULL;
 use crate::refusals::TOO_DEEP;
 use crate::standings::may_take;
+use measure::kinds::HATCHWAY;
+use measure::kinds::ROOM;
+use measure::kinds::UNDER_DECK;
 use measure::units::Hundredths;
 use spaces::around::Around;
 use spaces::around::around_space;
@@ -16,13 +19,11 @@ use spaces::enclosure::LEVELS;
 use spaces::enclosure::all_above;
 use spaces::enclosure::plain_below;
 use spaces::row::Found;
+use spaces::row::PLACES;
 use spaces::row::lesser;
 use spaces::row::place_of;
 use spaces::row::used;
-use spaces::space::HATCHWAY;
-use spaces::space::ROOM;
 use spaces::space::Space;
-use spaces::space::UNDER_DECK;
 use spaces::sums::Amount;
 use spaces::sums::sum;
 ghost use mathlib.Core.Path.{_≡_};
@@ -39,9 +40,7 @@ ghost use Rattle.standard.specs.Rules.{inHatchway, entryNumber, encloses
 ghost use Rattle.standard.specs.Handed.{searched, overfullBy, judgedNumber};
 
 // Ids go from 1 to 9,999.
-const GREATEST_ID: u16 = 9_999;
-// Spaces that a sheet has room for.
-const PLACES: usize = 200;
+pub const GREATEST_ID: u16 = 9_999;
 
 // A withdrawal or a mark judged: the number with which it is refused, or 0, and the place of the space with its id, from 0; as many
 // as stand where none has it.

@@ -9,7 +9,7 @@ use lib.Dec.{eqb, ltb, lit<}
 use lib.ListN.{length, take, drop, getD}
 use Rattle.measure.specs.declared.units.Hundredths.{Hundredths}
 use Rattle.measure.specs.Kinds.{kindOf}
-use Rattle.measure.specs.Ranges.{within, tonnageLengths}
+use Rattle.measure.specs.Ranges.{includes, tonnageLengths}
 use Rattle.measure.specs.Refusals.{firstOf}
 use Rattle.spaces.specs.Space.{emptySpace}
 use Rattle.standard.specs.Gross.{gross, net}
@@ -73,7 +73,7 @@ framed file e =
 
 -- no entry takes an empty record
 empty-refused : (L : Hundredths) (before : List Space) → recordNumber L before emptySpace ≡ 2
-unfolding recordNumber within kindOf
+unfolding recordNumber includes kindOf
 empty-refused L before = refl
 
 -- the sheet's own judging of the records as they are handed to it finds the first that is faulty
@@ -138,7 +138,7 @@ pub record Resumes (L : Hundredths) (all : List (List ℕ)) : Type 0 where
   pub position-is : resumed L (eachReadAs all) .position ≡ firstFaulty L [] all
   pub sheet-is : firstFaulty L [] all ≡ 0 → resumed L (eachReadAs all) .sheet ≡ withStanding (spacesOf all) (blank true L)
 
-pub resumes : (L : Hundredths) (all : List (List ℕ)) → within tonnageLengths L.0 ≡ true → Resumes L all
+pub resumes : (L : Hundredths) (all : List (List ℕ)) → includes tonnageLengths L.0 ≡ true → Resumes L all
 unfolding resumed
 resumes L all fits = by (eqb (firstRefused L [] (eachReadAs all) .number) 0) refl
   where

@@ -6,7 +6,7 @@ use mathlib.Core.List.{List}
 use borrow.Author.Tests.{eqb-true, le-leb}
 use lib.Dec.{lit<}
 use lib.ListN.{getD}
-use Rattle.measure.specs.Ranges.{within, tonnageLengths}
+use Rattle.measure.specs.Ranges.{includes, tonnageLengths}
 use Rattle.measure.proofs.laws.Tests.{and-left, and-right}
 use Rattle.dayfile.specs.Fields.{each, fitting}
 use Rattle.dayfile.specs.Trailer.{trailerFields, trailerNumbers, trailerRight, trailerOf, sheetSize}
@@ -33,8 +33,8 @@ module _ (numbers : List ℕ) (right : trailerRight numbers ≡ true) where
 
 -- the tonnage length of a right trailer at the front of some bytes is one that a sheet may have
 pub tonnage-length-fits : (bytes : List ℕ) → trailerRight (trailerNumbers bytes) ≡ true
-    → within tonnageLengths (trailerOf (trailerNumbers bytes) .«tonnage_length» .0) ≡ true
-unfolding within
+    → includes tonnageLengths (trailerOf (trailerNumbers bytes) .«tonnage_length» .0) ≡ true
+unfolding includes
 tonnage-length-fits bytes right =
     let v = trailerNumbers bytes in
     let fits = fields-fit v right in

@@ -11,7 +11,7 @@ use Rattle.measure.specs.Kinds.{isKind}
 use Rattle.measure.specs.Rounding.{nearest}
 use Rattle.measure.specs.Parts.{EvenParts, partsOf, underDeckParts, depthParts}
 use Rattle.measure.specs.Volumes.{tons}
-use Rattle.measure.specs.Ranges.{within, allWithin, tonnageLengths, lengths, heights, breadths}
+use Rattle.measure.specs.Ranges.{includes, includesAll, tonnageLengths, lengths, heights, breadths}
 use Rattle.measure.specs.Offsets.{inRange, stations, breadthsAtStation, middleOf, counted, tonnage}
 use Rattle.measure.specs.Handed.{AllAtMost, UnderDeckHanded, LevelHanded, BoxHanded, Taken, mostTons}
 use Rattle.measure.specs.declared.units.Hundredths.{Hundredths}
@@ -19,7 +19,7 @@ use Rattle.measure.specs.declared.kinds.Kind.{Kind}
 use Rattle.measure.specs.declared.kinds.Kind.the-variants.{UnderDeck, BetweenDeck, Superstructure, Hatchway, Room, NoKind}
 use Rattle.measure.proofs.laws.Tests.{and-left, and-right}
 use Rattle.measure.proofs.laws.Parts.{most, table-even, under-deck-even, superstructure-even, depth-even}
-use Rattle.measure.proofs.laws.Ranges.{within-most, all-at-most}
+use Rattle.measure.proofs.laws.Ranges.{includes-most, all-at-most}
 use Rattle.measure.proofs.laws.Volumes.{under-deck-tons-le, level-tons-le, box-tons-le}
 
 pub breadths-at-station-le : (k : Kind) (middle : Hundredths) → breadthsAtStation k middle ≤ 17
@@ -42,24 +42,24 @@ module _ (k : Kind) (t l : Hundredths) (hs bs : List ℕ) (taken : Taken k t l h
   pub taken-broad : AllAtMost 30000 bs
   unfolding inRange
   taken-broad =
-      let a = isKind k && within tonnageLengths t.0 && within (lengths k) l.0 && allWithin (heights k) hs in
-      all-at-most (breadths k) bs (and-right a (allWithin (breadths k) bs) (taken .ranged))
+      let a = isKind k && includes tonnageLengths t.0 && includes (lengths k) l.0 && includesAll (heights k) hs in
+      all-at-most (breadths k) bs (and-right a (includesAll (breadths k) bs) (taken .ranged))
 
   pub taken-high : AllAtMost 20000 hs
   unfolding inRange
   taken-high =
-      let a = isKind k && within tonnageLengths t.0 && within (lengths k) l.0 in
-      let h = and-left (a && allWithin (heights k) hs) (allWithin (breadths k) bs) (taken .ranged) in
-      all-at-most (heights k) hs (and-right a (allWithin (heights k) hs) h)
+      let a = isKind k && includes tonnageLengths t.0 && includes (lengths k) l.0 in
+      let h = and-left (a && includesAll (heights k) hs) (includesAll (breadths k) bs) (taken .ranged) in
+      all-at-most (heights k) hs (and-right a (includesAll (heights k) hs) h)
 
   pub taken-long : l.0 ≤ 150000
   unfolding inRange
   taken-long =
-      let a = isKind k && within tonnageLengths t.0 in
-      let b = a && within (lengths k) l.0 in
-      let h = and-left (b && allWithin (heights k) hs) (allWithin (breadths k) bs) (taken .ranged) in
-      let g = and-left b (allWithin (heights k) hs) h in
-      rw (lengths-most k) at (within-most (lengths k) l.0 (and-right a (within (lengths k) l.0) g))
+      let a = isKind k && includes tonnageLengths t.0 in
+      let b = a && includes (lengths k) l.0 in
+      let h = and-left (b && includesAll (heights k) hs) (includesAll (breadths k) bs) (taken .ranged) in
+      let g = and-left b (includesAll (heights k) hs) h in
+      rw (lengths-most k) at (includes-most (lengths k) l.0 (and-right a (includes (lengths k) l.0) g))
 
   pub taken-stations : length hs ≡ partsOf k t l + 1
   unfolding counted stations

@@ -6,21 +6,21 @@ use Prim.Native.Nat.{ℕ, _+_, _≤_, _<_}
 use borrow.Author.Tests.{leb-true}
 use lib.Dec.{leb}
 use lib.ListN.{length, drop, getD}
-use Rattle.measure.specs.Ranges.{within, allWithin}
+use Rattle.measure.specs.Ranges.{includes, includesAll}
 use Rattle.measure.specs.Handed.{AllAtMost, none, more}
 use Rattle.measure.specs.declared.ranges.Range.{Range}
 use Rattle.measure.proofs.laws.Tests.{and-left, and-right}
 use Rattle.measure.proofs.laws.Multipliers.{drop-step}
 
-pub all-within-step : (r : Range) (i : ℕ) (xs : List ℕ) → i < length xs
-    → allWithin r (drop i xs) ≡ (within r (getD xs i 0) && allWithin r (drop (i + 1) xs))
-all-within-step r i xs h = ap (allWithin r) (drop-step xs i h)
+pub includes-all-step : (r : Range) (i : ℕ) (xs : List ℕ) → i < length xs
+    → includesAll r (drop i xs) ≡ (includes r (getD xs i 0) && includesAll r (drop (i + 1) xs))
+includes-all-step r i xs h = ap (includesAll r) (drop-step xs i h)
 
-pub within-most : (r : Range) (x : ℕ) → within r x ≡ true → x ≤ r .most
-unfolding within
-within-most r x e = leb-true x (r .most) (and-right (leb (r .least) x) (leb x (r .most)) e)
+pub includes-most : (r : Range) (x : ℕ) → includes r x ≡ true → x ≤ r .most
+unfolding includes
+includes-most r x e = leb-true x (r .most) (and-right (leb (r .least) x) (leb x (r .most)) e)
 
-pub all-at-most : (r : Range) (xs : List ℕ) → allWithin r xs ≡ true → AllAtMost (r .most) xs
+pub all-at-most : (r : Range) (xs : List ℕ) → includesAll r xs ≡ true → AllAtMost (r .most) xs
 all-at-most r [] e = none
 all-at-most r (x ∷ xs) e =
-    more (within-most r x (and-left (within r x) (allWithin r xs) e)) (all-at-most r xs (and-right (within r x) (allWithin r xs) e))
+    more (includes-most r x (and-left (includes r x) (includesAll r xs) e)) (all-at-most r xs (and-right (includes r x) (includesAll r xs) e))

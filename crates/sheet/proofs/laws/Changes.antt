@@ -10,10 +10,10 @@ use borrow.Author.Tests.{le-leb, lt-leb, leb-true, leb-false, ltb-true, ltb-fals
 use lib.Dec.{leb, ltb}
 use lib.ListN.{length, take, drop, getD, set, length-append, length-drop, length-set, take-append-drop, drop-of-length-le}
 use lib.Seq.{length-take-le, take-all, take-take, getD-take, take-set-lt, drop-set-lt, set-out, set-at, append-snoc, drop-cons, drop-append-le, paste, length-paste-head}
-use Rattle.spaces.specs.Space.{emptySpace}
+use Rattle.spaces.specs.Space.{emptySpace, restanding}
 use Rattle.spaces.specs.declared.space.Space.{Space}
 use Rattle.sheet.specs.Sheet.{standing, kept, noChange}
-use Rattle.sheet.specs.Changes.{appended, withoutLast, removed, inserted, restanding, restood, withStanding, fitted, withChanges, latest, noted}
+use Rattle.sheet.specs.Changes.{appended, withoutLast, removed, inserted, restood, withStanding, fitted, withChanges, latest, noted}
 use Rattle.sheet.specs.Handed.{Places, OpenPlaces, behind}
 use Rattle.sheet.specs.declared.changes.Change.{Change}
 use Rattle.sheet.specs.declared.changes.OpenChange.{OpenChange}

@@ -7,7 +7,7 @@ use native.Mathlib.Omega.{arith}
 use borrow.Author.Tests.{not-false, eq-eqb, ltb-false}
 use lib.Dec.{eqb, ltb}
 use Rattle.spaces.specs.Row.{sumOf}
-use Rattle.standard.specs.Gross.{gross, net, unjustified}
+use Rattle.standard.specs.Gross.{gross, net, needsMark}
 use Rattle.spaces.specs.declared.sums.Amount.the-variants.{Lengths}
 use Rattle.sheet.specs.Sheet.{standing, usable, lengthOf, standingCount, placesOf}
 use Rattle.sheet.specs.Calls.{reportNumber, reported}
@@ -17,7 +17,7 @@ use Rattle.sheet.proofs.laws.Calls.{passed}
 
 -- the tests of a report from the one of a number on
 abbrev pub from-14 : Sheet → ℕ → List (Bool × ℕ)
-from-14 s j = (unjustified (standing s) && eqb j 0, 14) ∷ []
+from-14 s j = (needsMark (standing s) && eqb j 0, 14) ∷ []
 
 abbrev pub from-13 : Sheet → ℕ → List (Bool × ℕ)
 from-13 s j = (not (eqb (sumOf Lengths (standing s)) (s .length .0)), 13) ∷ from-14 s j

@@ -1,6 +1,6 @@
 -- `offsets::in_range` meets its contract: each test is the definition's.
 use mathlib.Core.Path.{_≡_, ap, _∙_}
-use Rattle.measure.specs.Ranges.{allWithin, heights}
+use Rattle.measure.specs.Ranges.{includesAll, heights}
 use Rattle.measure.specs.Offsets.{inRange}
 use Rattle.measure.specs.declared.ranges.Range.{Range}
 use Rattle.measure.proofs.laws.Tests.{holds, fails}
@@ -37,13 +37,13 @@ returns-3 c =
 heights-requires : tie.Need-heights-requires
 heights-requires c κs = search needs
 
-all-within-requires : tie.Need-all-within-requires
-all-within-requires c κs = search needs
+includes-all-requires : tie.Need-includes-all-requires
+includes-all-requires c κs = search needs
 
-heights-test : (c : tie.After-all-within) → (let s = c .before .before .before .before .before .before .before .before .before .before in c .all-within .result ≡ allWithin (heights (s .args .kind)) (s .args .heights .now))
+heights-test : (c : tie.After-includes-all) → (let s = c .before .before .before .before .before .before .before .before .before .before in c .includes-all .result ≡ includesAll (heights (s .args .kind)) (s .args .heights .now))
 heights-test c =
     let s = c .before .before .before .before .before .before .before .before .before .before in
-    c .all-within .ensures ∙ ap (λ (r : Range). allWithin r (s .args .heights .now)) (c .before .heights .ensures)
+    c .includes-all .ensures ∙ ap (λ (r : Range). includesAll r (s .args .heights .now)) (c .before .heights .ensures)
 
 returns-4 : tie.Need-returns-4
 unfolding inRange
@@ -57,8 +57,8 @@ returns-4 c =
 breadths-requires : tie.Need-breadths-requires
 breadths-requires c κs = search needs
 
-all-within-requires-2 : tie.Need-all-within-requires-2
-all-within-requires-2 c κs = search needs
+includes-all-requires-2 : tie.Need-includes-all-requires-2
+includes-all-requires-2 c κs = search needs
 
 returns-5 : tie.Need-returns-5
 unfolding inRange
@@ -70,7 +70,7 @@ returns-5 c =
     let s = k .before .before .before .before in
     simp
     (holds (k .before .is-kind .ensures) (k .if1 .left), holds (t .before .tonnage-length-fits .ensures) (t .if2 .left), holds (l .before .length-fits .ensures) (l .if3 .left), holds (heights-test (h .before)) (h .if4 .left))
-    (c .all-within2 .ensures ∙ ap (λ (r : Range). allWithin r (s .args .breadths .now)) (c .before .breadths .ensures))
+    (c .includes-all2 .ensures ∙ ap (λ (r : Range). includesAll r (s .args .breadths .now)) (c .before .breadths .ensures))
 
 pub in-range-spec : {M : Type 1} → statement M
 in-range-spec =
@@ -83,8 +83,8 @@ in-range-spec =
     length-fits-requires
     returns-3
     heights-requires
-    all-within-requires
+    includes-all-requires
     returns-4
     breadths-requires
-    all-within-requires-2
+    includes-all-requires-2
     returns-5)

@@ -4,7 +4,7 @@ use mathlib.Core.Path.{_≡_, ap, ap₂, _∙_}
 use lib.ListN.{take}
 use Rattle.measure.specs.Allowances.{ballastOver}
 use Rattle.spaces.specs.Row.{sumOf, totalsOf}
-use Rattle.standard.specs.Gross.{grossOver, gross, net, unjustified}
+use Rattle.standard.specs.Gross.{grossOver, gross, net, needsMark}
 use Rattle.spaces.specs.declared.sums.Amount.the-variants.{Hull, Hatchways, Exempt}
 use Rattle.spaces.specs.declared.sums.Totals.{Totals}
 use borrow.Author.Needs.{needs}
@@ -45,7 +45,7 @@ gross-is c =
     c .gross-over .ensures ∙ rw (c .before .less .ensures, sums)
 
 returns : tie.Need-returns
-unfolding net unjustified totalsOf
+unfolding net needsMark totalsOf
 returns c =
     let g = c .before .before .before .before in
     let t = g .before .before .before in

@@ -1,7 +1,7 @@
 -- `records::misrecorded` meets its contract.
 use mathlib.Core.Path.{_≡_, ap, _∙_}
 use borrow.Author.Tests.{lt-ltb, le-ltb, eq-eqb, ne-eqb}
-use Rattle.measure.specs.Ranges.{within, lengths}
+use Rattle.measure.specs.Ranges.{includes, lengths}
 use Rattle.measure.specs.Kinds.{kindOf}
 use Rattle.measure.proofs.laws.Tests.{holds, fails}
 use Rattle.measure.specs.declared.kinds.Kind.{Kind}
@@ -18,10 +18,10 @@ kind-of-requires c κs = search needs
 length-fits-requires : tie.Need-length-fits-requires
 length-fits-requires c κs = search needs
 
-length-test : (c : tie.After-length-fits) → (let s = c .before .before .before .before in c .length-fits .result ≡ within (lengths (kindOf (s .args .x .kind))) (s .args .x .length .0))
+length-test : (c : tie.After-length-fits) → (let s = c .before .before .before .before in c .length-fits .result ≡ includes (lengths (kindOf (s .args .x .kind))) (s .args .x .length .0))
 length-test c =
     let s = c .before .before .before .before in
-    c .length-fits .ensures ∙ ap (λ (k : Kind). within (lengths k) (s .args .x .length .0)) (c .before .kind-of .ensures)
+    c .length-fits .ensures ∙ ap (λ (k : Kind). includes (lengths k) (s .args .x .length .0)) (c .before .kind-of .ensures)
 
 returns-2 : tie.Need-returns-2
 returns-2 c = rw (le-ltb 100000000 _ (c .before .before .before .if1 .left), fails (length-test (c .before)) (c .if2 .taken))

@@ -8,7 +8,7 @@ use borrow.Author.Tests.{lt-ltb, le-ltb, ne-eqb, eq-eqb}
 use lib.Dec.{eqb, ltb}
 use Rattle.measure.specs.Refusals.{firstOf}
 use Rattle.spaces.specs.Row.{sumOf}
-use Rattle.standard.specs.Gross.{unjustified}
+use Rattle.standard.specs.Gross.{needsMark}
 use Rattle.spaces.specs.declared.sums.Amount.the-variants.{Lengths}
 use Rattle.standard.specs.declared.gross.Reckoning.{Reckoning}
 use Rattle.sheet.specs.Sheet.{standing, usable}
@@ -77,11 +77,11 @@ module _ (d : tie.After-reckon) where
       (ap not (ne-eqb (sumOf Lengths (standing sh)) (sh .length .0) (λ same. differ (lengths-are ∙ same))))
 
   -- and then the test of 14 decides
-  module _ (full : d .reckon .result .lengths ≡ sh .length .0) (t : Bool) (needed : t ≡ (d .reckon .result .unjustified && eqb j 0)) where
+  module _ (full : d .reckon .result .lengths ≡ sh .length .0) (t : Bool) (needed : t ≡ (d .reckon .result .«needs_mark» && eqb j 0)) where
     left : reportNumber sh j ≡ firstOf ((t, 14) ∷ [])
     left =
         past-13 sh j on (d .before .before .if2 .left) (sym lengths-are ∙ full)
-        ∙ ap (λ (b : Bool). firstOf ((b, 14) ∷ [])) (sym (needed ∙ ap (λ (r : Reckoning). r .unjustified && eqb j 0) (d .reckon .ensures)))
+        ∙ ap (λ (b : Bool). firstOf ((b, 14) ∷ [])) (sym (needed ∙ ap (λ (r : Reckoning). r .«needs_mark» && eqb j 0) (d .reckon .ensures)))
 
 cast-if3 : tie.Need-cast-if3
 cast-if3 c = search needs
@@ -95,8 +95,8 @@ returns-3 c =
     let d = c .before .before .before .before in
     c .unreported3 .ensures ∙ ap (λ (n : ℕ). reportedWith n (sh d)) (sym (short d (c .before .if3 .taken)))
 
-needs-mark-requires : tie.Need-needs-mark-requires
-needs-mark-requires c κs = search needs
+unjustified-requires : tie.Need-unjustified-requires
+unjustified-requires c κs = search needs
 
 unreported-requires-4 : tie.Need-unreported-requires-4
 unreported-requires-4 c κs = search needs
@@ -105,14 +105,14 @@ returns-4 : tie.Need-returns-4
 unfolding reported
 returns-4 c =
     let d = c .before .before .before .before .before .before in
-    let at-14 = left d (c .before .before .before .if3 .left) _ (c .before .before .needs-mark .ensures) ∙ applies _ 14 [] (c .before .if4 .taken) in
+    let at-14 = left d (c .before .before .before .if3 .left) _ (c .before .before .unjustified .ensures) ∙ applies _ 14 [] (c .before .if4 .taken) in
     c .unreported4 .ensures ∙ ap (λ (n : ℕ). reportedWith n (sh d)) (sym at-14)
 
 returns-5 : tie.Need-returns-5
 unfolding reported
 returns-5 c =
     let d = c .before .before .before .before .before in
-    let none = left d (c .before .before .if3 .left) _ (c .before .needs-mark .ensures) ∙ passes _ 14 [] (c .if4 .left) in
+    let none = left d (c .before .before .if3 .left) _ (c .before .unjustified .ensures) ∙ passes _ 14 [] (c .if4 .left) in
     ap (λ (r : Reckoning). record { number = 0; gross = r .gross; net = r .net; sheet = sh d }) (d .reckon .ensures)
     ∙ ap (λ (n : ℕ). reportedWith n (sh d)) (sym none)
 
@@ -129,7 +129,7 @@ report-spec =
     cast-if3
     unreported-requires-3
     returns-3
-    needs-mark-requires
+    unjustified-requires
     unreported-requires-4
     returns-4
     returns-5)

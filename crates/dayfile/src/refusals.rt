@@ -1,0 +1,13 @@
+// The numbers of refusal of writing and reading ("Numbers of refusal").
+
+// Buffer has too little room from the named place.
+pub const NO_ROOM: u8 = 15;
+
+// The file ends in no sheet.
+pub const NO_SHEET: u8 = 16;
+
+// A record that no entry could have made.
+pub const WRONG_RECORD: u8 = 17;
+
+// Gross or net isn't what the records give.
+pub const WRONG_FIGURES: u8 = 18;
