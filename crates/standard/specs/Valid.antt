@@ -1,5 +1,4 @@
 -- A valid sheet: each of its records, in order, is accepted as an entry after those before it.
-use Prim.Native.Nat.{ℕ}
 use mathlib.Core.Path.{_≡_}
 use mathlib.Core.List.{List, [], _∷_, _++_}
 use Rattle.measure.specs.declared.units.Hundredths.{Hundredths}

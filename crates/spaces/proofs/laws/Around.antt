@@ -1,7 +1,7 @@
 -- What is around each of some records, by places and running sums; and the row of it, one record more. Stands on Places, Climb.
 use Prim.Native.Nat.{ℕ, zero, suc, _+_, _-_, _*_, _^_, _≤_, _<_, min}
 use mathlib.Core.Path.{_≡_, refl, sym, ap, ap₂, _∙_, subst}
-use mathlib.Core.Bool.{Bool, true, false, cond}
+use mathlib.Core.Bool.{cond}
 use mathlib.Core.List.{List, [], _∷_, _++_, append-nil}
 use native.Mathlib.Nat.{min-eq-left, min-eq-right}
 use native.Mathlib.Numerals.{add-one}
@@ -12,13 +12,12 @@ use lib.ListN.{length, take, getD, set, replicate, length-set, length-replicate,
 use lib.Seq.{length-take-le, take-suc, getD-set-same, getD-set-other, set-at, append-snoc, take-all}
 use Rattle.spaces.specs.Space.{emptySpace, isRoom}
 use Rattle.spaces.specs.Row.{placeOf, stands, amountOf, sumOf}
-use Rattle.spaces.specs.Enclosure.{above, allPlain, walked}
+use Rattle.spaces.specs.Enclosure.{above, walked}
 use Rattle.spaces.specs.Around.{enclosingPlace, besideOf, aroundOf, aroundFrom, nothingAround, eachAround}
 use Rattle.spaces.specs.Handed.{climbed, Charted}
 use Rattle.spaces.specs.declared.space.Space.{Space}
 use Rattle.spaces.specs.declared.sums.Amount.{Amount}
 use Rattle.spaces.specs.declared.sums.Amount.the-variants.{Inside, Lengths}
-use Rattle.spaces.specs.declared.enclosure.Above.{Above}
 use Rattle.spaces.specs.declared.around.Around.{Around}
 use Rattle.spaces.proofs.laws.Cases.{by-test}
 use Rattle.spaces.proofs.laws.Row.{sum-append}

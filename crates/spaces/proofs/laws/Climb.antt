@@ -1,10 +1,10 @@
 -- The chain upward climbed by places, among the first of some spaces: what stands before a place, one level of the climb, and that it
 -- meets what the walk meets. Stands on Places and Index.
-use Prim.Native.Nat.{ℕ, zero, suc, _+_, _-_, _≤_, _<_, min}
+use Prim.Native.Nat.{ℕ, zero, suc, _-_, _≤_, _<_, min}
 use mathlib.Core.Path.{_≡_, refl, sym, ap, ap₂, _∙_}
 use mathlib.Core.Bool.{Bool, true, false, cond, _&&_}
 use mathlib.Core.List.{List, [], _∷_}
-use mathlib.Core.Option.{Option, none, some}
+use mathlib.Core.Option.{none, some}
 use native.Mathlib.Nat.{min-le-left, min-le-right, min-eq-left, min-eq-right, min-comm, suc-min-suc}
 use native.Mathlib.Omega.{arith}
 use borrow.Author.Tests.{ltb-true, ltb-false, lt-ltb, le-ltb, eqb-true, eq-eqb}
@@ -79,7 +79,7 @@ unfolding climbed
 climbed-nowhere zero most places standings at h = refl
 climbed-nowhere (suc left) most places standings at h = rw (le-ltb (getD places at 0) most h)
 
-pub climbed-on : (left most : ℕ) (places standings : List ℕ) (at : ℕ) → 0 < left → getD places at 0 < most
+climbed-on : (left most : ℕ) (places standings : List ℕ) (at : ℕ) → 0 < left → getD places at 0 < most
     → let next = getD places at 0 in climbed left most places standings at ≡ pastOf (getD standings next 0) (climbed (left - 1) most places standings next)
 unfolding climbed
 climbed-on zero most places standings at h g = absurd (omega arith)
@@ -88,13 +88,24 @@ climbed-on (suc left) most places standings at h g =
     let l : left ≡ suc left - 1 = omega arith in
     rw (lt-ltb next most g) (ap (λ (k : ℕ). pastOf (getD standings next 0) (climbed k most places standings next)) l)
 
-pub climbed-short : (left most : ℕ) (places standings : List ℕ) (at : ℕ) → climbed left most places standings at .levels ≤ left
+climbed-short : (left most : ℕ) (places standings : List ℕ) (at : ℕ) → climbed left most places standings at .levels ≤ left
 unfolding climbed
 climbed-short zero most places standings at = omega arith
 climbed-short (suc left) most places standings at =
     let next = getD places at 0 in
     let further = climbed-short left most places standings next in
     by-test (ltb next most) (λ t. rw t (omega arith)) (λ f. rw f (omega arith))
+
+-- as the code has it: a climb is short, and r goes past the next place first
+module _ (left most : ℕ) (places standings : List ℕ) (at : ℕ) where
+  pub levels-left : (w : Above) → w ≡ climbed left most places standings at → w .levels ≤ left
+  levels-left w e = omega (arith, ap (λ (v : Above). v .levels) e, climbed-short left most places standings at)
+
+  pub climbed-past : 0 < left → getD places at 0 < most → (further r : Above) → further ≡ climbed (left - 1) most places standings (getD places at 0)
+      → r ≡ pastOf (getD standings (getD places at 0) 0) further
+      → r ≡ climbed left most places standings at
+  climbed-past h g further r e past =
+      past ∙ ap (pastOf (getD standings (getD places at 0) 0)) e ∙ sym (climbed-on left most places standings at h g)
 
 -- it meets what the walk meets
 pub climbed-walk : (xs : List Space) (places standings : List ℕ) → EnclosingPlaces xs places

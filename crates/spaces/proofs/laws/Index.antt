@@ -1,5 +1,5 @@
 -- Rows of one number of each space; and an index of ids: one id more at the front, and what an index says once all are laid.
-use Prim.Native.Nat.{ℕ, zero, suc, _+_, _-_, _≤_, _<_}
+use Prim.Native.Nat.{ℕ, zero, suc, _+_, _≤_, _<_}
 use mathlib.Core.Path.{_≡_, refl, sym, ap, _∙_}
 use mathlib.Core.Bool.{Bool, true, false}
 use mathlib.Core.List.{List, [], _∷_, _++_}
@@ -119,6 +119,16 @@ module _ (spaces : List Space) (n : ℕ) (fits : n ≤ length spaces) where
   pub place-first : (id : ℕ) → placeIn id (take n (idsOf spaces)) ≡ placeOf id (take n spaces)
   place-first id = ap (placeIn id) (column-take (λ (x : Space). x .id) n spaces) ∙ place-of-ids id (take n spaces)
 
-  pub asked-first : (own : Bool) (x : Space) → askedIn own x (take n (idsOf spaces)) n ≡ asked own (take n spaces) x
+  asked-first : (own : Bool) (x : Space) → askedIn own x (take n (idsOf spaces)) n ≡ asked own (take n spaces) x
   asked-first true x = place-first (x .id)
   asked-first false x = by-test (isRoom x) (λ r. rw r (place-first (x .within))) (λ r. rw r (sym (length-take-le n spaces fits)))
+
+  -- as the code has it: r is the place asked of the space at i
+  pub asked-at : (own : Bool) (ids : List ℕ) → ids ≡ idsOf spaces → (i : ℕ) → i < n → (r : ℕ) → r ≡ askedIn own (getD spaces i emptySpace) (take n ids) n
+      → r ≡ asked own (take n spaces) (getD (take n spaces) i emptySpace)
+  asked-at own ids same i h r e =
+      let x = getD spaces i emptySpace in
+      e
+      ∙ ap (λ (row : List ℕ). askedIn own x (take n row) n) same
+      ∙ asked-first own x
+      ∙ ap (asked own (take n spaces)) (sym (getD-take n spaces i emptySpace h))

@@ -1,7 +1,7 @@
 -- Places in the order: of an id that stands, of one that doesn't, and the chain upward followed by places. Stands on Cases,
 -- Row, Enclosure.
 use mathlib.Core.Path.{_≡_, refl, sym, ap, ap₂, _∙_}
-use mathlib.Core.Bool.{false, _||_}
+use mathlib.Core.Bool.{Bool, true, false, not, _&&_, _||_}
 use mathlib.Core.List.{List, [], _∷_}
 use mathlib.Core.Option.{none, some}
 use Prim.Native.Nat.{ℕ, zero, suc, _+_, _-_, _≤_, _<_}
@@ -10,7 +10,7 @@ use borrow.Author.Tests.{ltb-true, ltb-false, eqb-true, eqb-false, eq-eqb, ne-eq
 use lib.Dec.{eqb, ltb}
 use lib.ListN.{length, take, getD, set}
 use lib.Seq.{getD-set-same, getD-set-other}
-use Rattle.spaces.specs.Space.{emptySpace, isRoom}
+use Rattle.spaces.specs.Space.{emptySpace, isRoom, isPlain}
 use Rattle.spaces.specs.Row.{used, find, placeOf}
 use Rattle.spaces.specs.Enclosure.{enclosing, upward, above, among}
 use Rattle.spaces.specs.Around.{enclosingPlace}
@@ -103,13 +103,21 @@ unfolding leadsTo
 leads-nowhere zero n places from to h = refl
 leads-nowhere (suc left) n places from to h = rw (le-ltb (getD places from 0) n h)
 
-pub leads-on : (left n : ℕ) (places : List ℕ) (from to : ℕ) → 0 < left → getD places from 0 < n
+leads-on : (left n : ℕ) (places : List ℕ) (from to : ℕ) → 0 < left → getD places from 0 < n
     → leadsTo left n places from to ≡ (eqb (getD places from 0) to || leadsTo (left - 1) n places (getD places from 0) to)
 unfolding leadsTo
 leads-on zero n places from to h k = absurd (omega arith)
 leads-on (suc left) n places from to h k =
     let l : left ≡ suc left - 1 = omega arith in
     rw (lt-ltb (getD places from 0) n k) (ap (λ (j : ℕ). eqb (getD places from 0) to || leadsTo j n places (getD places from 0) to) l)
+
+-- as the code has it: the next place is the one asked, or r is told from there
+module _ (left n : ℕ) (places : List ℕ) (from to : ℕ) (h : 0 < left) (k : getD places from 0 < n) where
+  pub leads-there : getD places from 0 ≡ to → leadsTo left n places from to ≡ true
+  leads-there e = leads-on left n places from to h k ∙ simp (eq-eqb _ _ e)
+
+  pub leads-further : (getD places from 0 ≡ to → ⊥) → (r : Bool) → r ≡ leadsTo (left - 1) n places (getD places from 0) to → r ≡ leadsTo left n places from to
+  leads-further ne r e = e ∙ sym (leads-on left n places from to h k ∙ simp (ne-eqb _ _ ne))
 
 -- it leads to the place of an id exactly where the id is among those above
 leads-above : (xs : List Space) (places : List ℕ) → EnclosingPlaces xs places → (id left from : ℕ) → from < length xs
@@ -133,7 +141,7 @@ leads-above xs places each id (suc left) from h =
     ∙ sym (ap (among id) up))
 
 -- of the spaces that stand, by the 200 places
-pub leads-above-standing : (spaces : List Space) (count : ℕ) → length spaces ≡ 200 → (places : List ℕ) → EnclosingPlaces (take count spaces) places
+leads-above-standing : (spaces : List Space) (count : ℕ) → length spaces ≡ 200 → (places : List ℕ) → EnclosingPlaces (take count spaces) places
     → (id i : ℕ) → i < used count
     → leadsTo 8 (used count) places i (placeOf id (take count spaces)) ≡ among id (above (take count spaces) (getD spaces i emptySpace))
 unfolding above
@@ -143,6 +151,16 @@ leads-above-standing spaces count full places each id i h =
     ap (λ (n : ℕ). leadsTo 8 n places i (placeOf id xs)) all
     ∙ leads-above xs places each id 8 i (omega arith)
     ∙ ap (λ (y : Space). among id (upward 8 xs y)) (standing-at spaces count full i h)
+
+-- as the code has it: t tells of the space at i that it isn't plain and the one with an id is above it
+pub taken-below : (spaces : List Space) (count : ℕ) → length spaces ≡ 200 → (places : List ℕ) → EnclosingPlaces (take count spaces) places
+    → (id i n to : ℕ) → i < used count → n ≡ used count → to ≡ placeOf id (take count spaces)
+    → let y = getD spaces i emptySpace in (t : Bool) → t ≡ (not (isPlain y) && leadsTo 8 n places i to) → t ≡ (not (isPlain y) && among id (above (take count spaces) y))
+taken-below spaces count full places each id i n to h all place t e =
+    let y = getD spaces i emptySpace in
+    e
+    ∙ ap₂ (λ (m p : ℕ). not (isPlain y) && leadsTo 8 m places i p) all place
+    ∙ ap (λ (b : Bool). not (isPlain y) && b) (leads-above-standing spaces count full places each id i h)
 
 -- a home is a place, or the one after the last
 pub home-within : (xs : List Space) (places : List ℕ) → EnclosingPlaces xs places → (i : ℕ) → i < length xs → getD places i 0 ≤ length xs

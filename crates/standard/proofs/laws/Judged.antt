@@ -121,9 +121,9 @@ module _ (L : Hundredths) (xs : List Space) (x : Space) where
   home-encloses = enclosed-is xs x
 
   -- as the code has it: what is around, the enclosing space by its place, and whether all places are taken
-  pub judged-is : {o : Option Space} {a : Around} {full : Bool} → a ≡ aroundOf xs x → o ≡ enclosedAt (a .home) xs → full ≡ noPlace xs
-      → judgedNumber L x o a full ≡ entryNumber L xs x
+  pub judged-is : (o : Option Space) (a : Around) (full : Bool) → a ≡ aroundOf xs x → o ≡ enclosedAt (a .home) xs → full ≡ noPlace xs
+      → (r : ℕ) → r ≡ judgedNumber L x o a full → r ≡ entryNumber L xs x
   unfolding judgedNumber entryNumber
-  judged-is {o} {a} {full} around found all =
+  judged-is o a full around found all r e =
       let enclosed : o ≡ enclosing xs x = found ∙ ap (λ (b : Around). enclosedAt (b .home) xs) around ∙ home-encloses in
-      rw (enclosed, around, all, same-unhoused, same-overfull) same-tests
+      e ∙ rw (enclosed, around, all, same-unhoused, same-overfull) same-tests

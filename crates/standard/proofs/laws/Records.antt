@@ -1,7 +1,7 @@
 -- Records judged one after another: one passed, one refused, and the end; and the number of one, by what is around it.
 use Prim.Native.Nat.{ℕ, _+_, _≤_, _<_}
 use mathlib.Core.Path.{_≡_, refl, sym, ap, _∙_}
-use mathlib.Core.Bool.{Bool, false, cond}
+use mathlib.Core.Bool.{false, cond}
 use mathlib.Core.List.{List, [], _∷_, _++_}
 use mathlib.Core.Option.{Option}
 use native.Mathlib.Numerals.{add-one}
@@ -44,10 +44,12 @@ module _ (L : Hundredths) (xs : List Space) (i : ℕ) where
 
 -- ---- the number of a record after fewer than 200
 
-pub record-number-is : (L : Hundredths) (xs : List Space) (x : Space) {o : Option Space} {a : Around} → a ≡ aroundOf xs x → o ≡ enclosedAt (a .home) xs
+pub record-number-is : (L : Hundredths) (xs : List Space) (x : Space) (o : Option Space) (a : Around) → a ≡ aroundOf xs x → o ≡ enclosedAt (a .home) xs
     → length xs < 200
-    → cond (misrecorded x) 2 (judgedNumber L x o a false) ≡ recordNumber L xs x
+    → (y : Space) → y ≡ x → (r : ℕ) → r ≡ cond (misrecorded y) 2 (judgedNumber L y o a false) → r ≡ recordNumber L xs x
 unfolding recordNumber entryNumber
-record-number-is L xs x {o} {a} around found few =
-    ap (λ (n : ℕ). cond (misrecorded x) 2 n) (judged-is L xs x around found (sym (lt-leb 200 (length xs) few)))
+record-number-is L xs x o a around found few y same r e =
+    e
+    ∙ ap (λ (z : Space). cond (misrecorded z) 2 (judgedNumber L z o a false)) same
+    ∙ ap (λ (n : ℕ). cond (misrecorded x) 2 n) (judged-is L xs x o a false around found (sym (lt-leb 200 (length xs) few)) (judgedNumber L x o a false) refl)
     ∙ by-test (misrecorded x) (λ t. rw t) (λ f. rw f)

@@ -1,15 +1,13 @@
 -- `around::around_places` meets its contract. The loop's invariant: what is around the first i is told, and the sums are theirs.
-use Prim.Native.Nat.{ℕ, _≤_, _<_, _+_, _-_}
-use mathlib.Core.Path.{_≡_, refl, sym, ap, _∙_}
+use Prim.Native.Nat.{_≤_, _<_, _-_}
+use mathlib.Core.Path.{_≡_, sym, ap, _∙_}
 use mathlib.Core.List.{List}
 use native.Mathlib.Omega.{arith}
 use lib.Dec.{ltb}
 use lib.ListN.{length, take, getD, set}
 use lib.Seq.{getD-take, length-take-le}
 use Rattle.spaces.specs.Space.{emptySpace}
-use Rattle.spaces.specs.Around.{aroundOf, eachAround}
-use Rattle.spaces.specs.declared.space.Space.{Space}
-use Rattle.spaces.specs.declared.enclosure.Above.{Above}
+use Rattle.spaces.specs.Around.{aroundOf}
 use Rattle.spaces.specs.declared.around.Around.{Around}
 use Rattle.spaces.proofs.laws.Places.{home-within}
 use Rattle.spaces.proofs.laws.Around.{Summed, nothing-summed, one-summed, gathered, aroundFirst, around-more, around-all}

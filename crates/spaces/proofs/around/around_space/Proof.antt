@@ -1,8 +1,5 @@
 -- `around::around_space` meets its contract.
-use mathlib.Core.Path.{_≡_, ap, _∙_}
-use Prim.Native.Nat.{ℕ}
-use lib.ListN.{take}
-use Rattle.spaces.specs.Around.{besideOf, aroundOf}
+use Rattle.spaces.specs.Around.{aroundOf}
 use borrow.Author.Needs.{needs}
 use Rattle.spaces.proofs.around.around_space.Statement.{statement}
 use Rattle.spaces.proofs.around.around_space.Tie as tie

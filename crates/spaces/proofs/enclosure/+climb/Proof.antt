@@ -1,12 +1,10 @@
 -- `enclosure::climb` meets its contract: the levels left fall with each step, and a step is the definition's first one.
 use Prim.Native.Nat.{ℕ, _-_, _<_}
-use mathlib.Core.Path.{sym, ap, _∙_}
+use mathlib.Core.Path.{sym, _∙_}
 use native.Mathlib.Omega.{arith}
 use lib.ListN.{getD}
-use Rattle.spaces.specs.Handed.{pastOf, climbed}
-use Rattle.spaces.specs.declared.enclosure.Above.{Above}
-use Rattle.spaces.proofs.laws.Climb.{climbed-nowhere, climbed-on, climbed-short}
-use borrow.Author.Needs.{needs}
+use Rattle.spaces.specs.Handed.{climbed}
+use Rattle.spaces.proofs.laws.Climb.{climbed-nowhere, levels-left, climbed-past}
 use borrow.Fn.Kinds.{In}
 use borrow.Fn.PlainCycle.{Measures, is, falls, and}
 use Rattle.spaces.proofs.enclosure.climb.Reads as reads
@@ -69,15 +67,14 @@ module _ (t : ℕ) where
   past-requires c κs =
       let s = c .before .before .before .before .before in
       let a = s .args in
-      omega (arith, s .pre .1, ap (λ (w : Above). w .levels) (c .before .climb .ensures), climbed-short (a .left - 1) (a .most) (a .places .now) (a .standings .now) (getD (a .places .now) (a .at) 0))
+      let further = c .before .climb in
+      omega (arith, s .pre .1, levels-left (a .left - 1) (a .most) (a .places .now) (a .standings .now) (getD (a .places .now) (a .at) 0) (further .result) (further .ensures))
 
   returns-3 : lts.Need-returns-3 (told t) (now-left t) reads.Post
   returns-3 c =
-      let w = c .before in
-      let a = w .before .before .before .before .before .args in
-      c .past .ensures
-      ∙ ap (pastOf (getD (a .standings .now) (getD (a .places .now) (a .at) 0) 0)) (w .before .climb .ensures)
-      ∙ sym (climbed-on (a .left) (a .most) (a .places .now) (a .standings .now) (a .at) (omega arith) (omega arith))
+      let further = c .before .before in
+      let a = further .before .before .before .before .args in
+      climbed-past (a .left) (a .most) (a .places .now) (a .standings .now) (a .at) (omega arith) (omega arith) (further .climb .result) (c .past .result) (further .climb .ensures) (c .past .ensures)
 
 pub +climb-spec : {M : Type 1} → statement M
 +climb-spec =

@@ -1,10 +1,9 @@
 -- `enclosure::leads_to` meets its contract: the levels left fall with each step, and a step is the definition's first one.
 use Prim.Native.Nat.{ℕ, _<_}
-use mathlib.Core.Path.{sym, _∙_}
-use borrow.Author.Tests.{eq-eqb, ne-eqb}
+use mathlib.Core.Path.{sym}
 use native.Mathlib.Omega.{arith}
 use Rattle.spaces.specs.Handed.{leadsTo}
-use Rattle.spaces.proofs.laws.Places.{leads-nowhere, leads-on}
+use Rattle.spaces.proofs.laws.Places.{leads-nowhere, leads-there, leads-further}
 use borrow.Fn.Kinds.{In}
 use borrow.Fn.PlainCycle.{Measures, is, falls, and}
 use Rattle.spaces.proofs.enclosure.leads_to.Reads as reads
@@ -43,7 +42,7 @@ module _ (t : ℕ) where
   returns-3 : lts.Need-returns-3 (fewer-left t, reads.Post) (now-left t) reads.Post
   returns-3 c =
       let s = c .before .before .before .before in
-      sym (leads-on (s .args .left) (s .args .n) (s .args .places .now) (s .args .from) (s .args .to) (omega arith) (omega arith) ∙ simp (eq-eqb _ _ (c .if3 .taken)))
+      sym (leads-there (s .args .left) (s .args .n) (s .args .places .now) (s .args .from) (s .args .to) (omega arith) (omega arith) (c .if3 .taken))
 
   sub-leads-to : lts.Need-sub-leads-to (fewer-left t, reads.Post) (now-left t) reads.Post
   sub-leads-to c = omega arith
@@ -54,8 +53,7 @@ module _ (t : ℕ) where
   returns-4 : lts.Need-returns-4 (fewer-left t, reads.Post) (now-left t) reads.Post
   returns-4 c =
       let s = c .before .before .before .before .before in
-      c .leads-to .ensures
-      ∙ sym (leads-on (s .args .left) (s .args .n) (s .args .places .now) (s .args .from) (s .args .to) (omega arith) (omega arith) ∙ simp (ne-eqb _ _ (c .before .if3 .left)))
+      leads-further (s .args .left) (s .args .n) (s .args .places .now) (s .args .from) (s .args .to) (omega arith) (omega arith) (c .before .if3 .left) (c .leads-to .result) (c .leads-to .ensures)
 
 pub +leads-to-spec : {M : Type 1} → statement M
 +leads-to-spec =

@@ -1,16 +1,16 @@
 -- `enclosure::plain_chains` meets its contract. The loop's invariant: those left are plain below where all are.
 use Prim.Native.Nat.{ℕ, _≤_, _+_, _-_}
-use mathlib.Core.Path.{_≡_, refl, sym, ap, ap₂, _∙_, subst}
+use mathlib.Core.Path.{_≡_, refl, sym, ap, _∙_, subst}
 use mathlib.Core.Bool.{Bool, not, _&&_}
 use mathlib.Core.List.{List}
 use lib.ListN.{length, take, drop, getD}
-use Rattle.spaces.specs.Space.{emptySpace, isPlain}
+use Rattle.spaces.specs.Space.{emptySpace}
 use Rattle.spaces.specs.Enclosure.{allPlain, belowOf, below}
-use Rattle.spaces.specs.Handed.{EnclosingPlaces, leadsTo}
+use Rattle.spaces.specs.Handed.{EnclosingPlaces}
 use Rattle.spaces.specs.declared.space.Space.{Space}
 use Rattle.spaces.proofs.laws.Row.{take-used, standing-step, standing-end}
 use Rattle.spaces.proofs.laws.Enclosure.{below-step}
-use Rattle.spaces.proofs.laws.Places.{leads-above-standing}
+use Rattle.spaces.proofs.laws.Places.{taken-below}
 use native.Mathlib.Omega.{arith}
 use borrow.Author.Needs.{needs}
 use Rattle.spaces.proofs.enclosure.plain_chains.Statement.{statement}
@@ -58,8 +58,8 @@ step c =
     let rest = drop (l .loop .i + 1) xs in
     let places = e .enclosing-places .result in
     let each = subst (λ (ys : List Space). EnclosingPlaces ys places) firsts (e .enclosing-places .ensures) in
-    let leads = ap₂ (λ (n to : ℕ). leadsTo 8 n places (l .loop .i) to) (u .used .ensures) (l .before .place-of .ensures) ∙ leads-above-standing (s .args .t1) (s .args .count) full places each (s .args .id) (l .loop .i) (omega arith) in
-    let taken = c .taken-under .ensures ∙ ap (λ (b : Bool). not (isPlain y) && b) leads in
+    let to = l .before .place-of in
+    let taken = taken-below (s .args .t1) (s .args .count) full places each (s .args .id) (l .loop .i) (u .used .result) (to .result) (omega arith) (u .used .ensures) (to .ensures) (c .taken-under .result) (c .taken-under .ensures) in
     sym (l .loop .inv .1)
     ∙ ap (λ (ys : List Space). allPlain (belowOf (s .args .id) xs ys)) (standing-step (s .args .t1) (s .args .count) full (l .loop .i) (omega arith))
     ∙ below-step (s .args .id) xs y rest

@@ -1,7 +1,6 @@
 -- `index::index_ids` meets its contract. The loop's invariant: the index has the places of the ids from `left` on.
 use Prim.Native.Nat.{ℕ, _≤_, _+_, _-_}
-use mathlib.Core.Path.{_≡_, refl, sym, ap, _∙_, subst}
-use mathlib.Core.List.{List}
+use mathlib.Core.Path.{_≡_, refl, sym, _∙_, subst}
 use lib.ListN.{length, take, length-set}
 use Rattle.spaces.proofs.laws.Index.{IndexedFrom, none-indexed, one-indexed, not-reached, all-indexed}
 use native.Mathlib.Omega.{arith}

@@ -1,8 +1,8 @@
 -- `index::place_in` meets its contract. The loop's invariant: the place in what is left, and the places passed, are the place.
 use Prim.Native.Nat.{_≤_, _+_, _-_}
-use mathlib.Core.Path.{_≡_, ap, _∙_}
+use mathlib.Core.Path.{_≡_, ap}
 use native.Mathlib.Nat.{zero-add}
-use lib.ListN.{length, take, drop}
+use lib.ListN.{take, drop}
 use Rattle.spaces.specs.Handed.{placeIn}
 use Rattle.spaces.proofs.laws.Index.{place-here, place-further, ids-ended}
 use native.Mathlib.Omega.{arith}

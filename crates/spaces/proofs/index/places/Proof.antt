@@ -1,14 +1,13 @@
 -- `index::places` meets its contract. The loop's invariant: the places so far are those of the first i spaces.
 use Prim.Native.Nat.{ℕ, _≤_, _-_}
-use mathlib.Core.Path.{_≡_, refl, sym, ap, _∙_}
-use mathlib.Core.List.{List}
+use mathlib.Core.Path.{_≡_, refl}
 use native.Mathlib.Omega.{arith}
 use lib.ListN.{length, take, getD, length-set}
-use lib.Seq.{getD-take, length-take-le}
+use lib.Seq.{length-take-le}
 use Rattle.spaces.specs.Space.{emptySpace}
-use Rattle.spaces.specs.Handed.{asked, askedIn}
+use Rattle.spaces.specs.Handed.{asked}
 use Rattle.spaces.proofs.laws.Places.{FirstPlaces, one-more-place}
-use Rattle.spaces.proofs.laws.Index.{asked-first}
+use Rattle.spaces.proofs.laws.Index.{asked-at}
 use borrow.Author.Needs.{needs}
 use Rattle.spaces.proofs.index.places.Statement.{statement}
 use Rattle.spaces.proofs.index.places.Tie as tie
@@ -51,13 +50,10 @@ loop-again c =
     let n = a .n in
     let xs = take n (a .t1) in
     let full : length (a .t1) ≡ 200 = search needs in
-    let x = getD (a .t1) (l .loop .i) emptySpace in
-    let found : c .place-asked .result ≡ asked (a .own) xs x =
-    c .place-asked .ensures
-    ∙ ap (λ (ids : List ℕ). askedIn (a .own) x (take n ids) n) (s .pre .1)
-    ∙ asked-first (a .t1) n (omega arith) (a .own) x in
-    let e = found ∙ ap (asked (a .own) xs) (sym (getD-take n (a .t1) (l .loop .i) emptySpace (omega arith))) in
-    (omega arith, simp length-set (l .loop .inv .1), one-more-place (λ (j : ℕ). asked (a .own) xs (getD xs j emptySpace)) (l .loop .found) (l .loop .i) (c .place-asked .result) (omega arith) e (l .loop .inv .2))
+    let i = l .loop .i in
+    let r = c .place-asked .result in
+    let e = asked-at (a .t1) n (omega arith) (a .own) (a .ids .now) (s .pre .1) i (omega arith) r (c .place-asked .ensures) in
+    (omega arith, simp length-set (l .loop .inv .1), one-more-place (λ (j : ℕ). asked (a .own) xs (getD xs j emptySpace)) (l .loop .found) i r (omega arith) e (l .loop .inv .2))
 
 returns : tie.Need-returns Inv-loop μ-loop
 returns c =

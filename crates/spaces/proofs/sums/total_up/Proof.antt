@@ -1,5 +1,5 @@
 -- `sums::total_up` meets its contract. The loop's invariant: each sum so far and what is left to sum are the whole.
-use Prim.Native.Nat.{ℕ, _≤_, _<_, _-_}
+use Prim.Native.Nat.{_≤_, _<_, _-_}
 use mathlib.Core.Path.{_≡_}
 use native.Mathlib.Nat.{min-le-right}
 use native.Mathlib.Omega.{arith}

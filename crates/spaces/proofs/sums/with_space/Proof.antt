@@ -2,7 +2,6 @@
 use native.Mathlib.Omega.{arith}
 use Rattle.spaces.specs.declared.sums.Amount.the-variants.{Lengths, Hull, Hatchways, Exempt, Ballast, Deducted}
 use Rattle.spaces.proofs.laws.Sums.{added}
-use borrow.Author.Needs.{needs}
 use Rattle.spaces.proofs.sums.with_space.Statement.{statement}
 use Rattle.spaces.proofs.sums.with_space.Tie as tie
 

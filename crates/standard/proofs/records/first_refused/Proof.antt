@@ -2,20 +2,18 @@
 -- first.
 use Prim.Native.Nat.{ℕ, _+_, _-_, _≤_, _<_}
 use mathlib.Core.Path.{_≡_, refl, sym, ap, _∙_}
-use mathlib.Core.Bool.{false, cond}
+use mathlib.Core.Bool.{false}
 use mathlib.Core.List.{List, []}
 use native.Mathlib.Nat.{min-le-right, min-le-left, min-eq-left}
 use native.Mathlib.Omega.{arith}
 use lib.ListN.{length, take, drop, getD}
 use lib.Seq.{getD-take, take-take, length-take-le}
 use Rattle.spaces.specs.Space.{emptySpace}
-use Rattle.spaces.specs.Around.{aroundOf}
-use Rattle.spaces.specs.declared.space.Space.{Space}
 use Rattle.spaces.specs.declared.around.Around.{Around}
 use Rattle.spaces.proofs.laws.Row.{used-is}
 use Rattle.spaces.proofs.laws.Around.{around-at}
-use Rattle.standard.specs.Records.{misrecorded, recordNumber, firstRefused}
-use Rattle.standard.specs.Handed.{searched, judgedNumber}
+use Rattle.standard.specs.Records.{recordNumber, firstRefused}
+use Rattle.standard.specs.Handed.{searched}
 use Rattle.standard.proofs.laws.Judged.{enclosedAt, enclosed-by}
 use Rattle.standard.proofs.laws.Records.{record-passed, record-refused, none-refused, record-number-is}
 use borrow.Author.Needs.{needs}
@@ -102,14 +100,16 @@ number-is c =
     let z = c .before .before .before in
     let found = c .before .found-if in
     let told = getD (each .around-each .result) i unread in
-    c .record-number .ensures
-    ∙ ap (λ (y : Space). cond (misrecorded y) 2 (judgedNumber (a .tonnage-length) y (searched (found .result)) told false)) same
-    ∙ record-number-is (a .tonnage-length) (take i xs) (getD xs i emptySpace)
+    record-number-is (a .tonnage-length) (take i xs) (getD xs i emptySpace) (searched (found .result)) told
     (ap (λ (row : List Around). getD row i unread) (each .around-each .ensures) ∙ around-at xs i at unread)
     (found .ensures
     ∙ enclosed-by (a .t1) i (told .home) (z .lesser .result) i (sym (length-take-le i (a .t1) (omega (arith, all .1, below, full)))) (λ low. z .lesser .ensures ∙ min-eq-left (omega arith))
     ∙ ap (enclosedAt (told .home)) first)
     (omega (arith, length-take-le i xs (omega arith), all .1, below))
+    (getD (a .t1) i emptySpace)
+    same
+    (c .record-number .result)
+    (c .record-number .ensures)
 
 add-t27 : tie.Need-add-t27 Inv-loop μ-loop
 add-t27 c = omega arith

@@ -5,6 +5,7 @@ use native.Mathlib.Omega.{arith}
 use lib.Dec.{leb}
 use lib.ListN.{length, take}
 use Rattle.spaces.proofs.laws.Row.{used-is}
+use Rattle.standard.specs.Handed.{searched}
 use Rattle.standard.proofs.laws.Judged.{judged-is, enclosed-by}
 use borrow.Author.Needs.{needs}
 use Rattle.standard.proofs.rules.entry_number.Statement.{statement}
@@ -44,14 +45,14 @@ returns c =
     let xs = take (a .count) (a .t1) in
     let full : length (a .t1) ≡ 200 = search needs in
     let all = u .used .ensures ∙ used-is (a .t1) (a .count) full in
-    let around = met .around-space .ensures in
     let home = met .around-space .result .home in
-    c .judged .ensures
-    ∙ judged-is (a .tonnage-length) xs (a .x) around
+    judged-is (a .tonnage-length) xs (a .x) (searched (found .found-if .result)) (met .around-space .result) (leb 200 (u .used .result)) (met .around-space .ensures)
     (found .found-if .ensures
     ∙ enclosed-by (a .t1) (a .count) home (low .lesser .result) (u .used .result) all
     (λ below. low .lesser .ensures ∙ min-eq-left (omega (arith, u .used .ensures, min-le-right (a .count) 200))))
     (ap (leb 200) all)
+    (c .judged .result)
+    (c .judged .ensures)
 
 pub entry-number-spec : {M : Type 1} → statement M
 entry-number-spec =

@@ -1,6 +1,5 @@
 -- `rules::id_refused` meets its contract.
 use borrow.Author.Tests.{lt-ltb, le-ltb}
-use borrow.Author.Needs.{needs}
 use Rattle.standard.proofs.rules.id_refused.Statement.{statement}
 use Rattle.standard.proofs.rules.id_refused.Tie as tie
 

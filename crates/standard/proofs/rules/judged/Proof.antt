@@ -1,6 +1,6 @@
 -- `rules::judged` meets its contract: the tests of 4 to 10, in the table's order.
 use mathlib.Core.Path.{_≡_, sym, _∙_}
-use mathlib.Core.Bool.{false, cond, not, _&&_, _||_}
+use mathlib.Core.Bool.{true, false, cond, not, _&&_, _||_}
 use borrow.Author.Tests.{le-leb, lt-leb}
 use lib.Dec.{leb, ltb}
 use Rattle.spaces.specs.Space.{isRoom, isPlain}
@@ -72,6 +72,9 @@ once c = sym (c .before .off-twice .ensures) ∙ c .if5 .left
 overfull-requires : tie.Need-overfull-requires
 overfull-requires c κs = search needs
 
+over : (c : tie.Then6) → (let s = c .before .before .before .before .before .before .before .before .before .before .before .before .args in overfullBy (s .tonnage-length) (s .x) (searched (s .found)) (s .around .beside) ≡ true)
+over c = sym (c .before .overfull .ensures) ∙ c .if6 .taken
+
 returns-6 : tie.Need-returns-6
 unfolding judgedNumber
 returns-6 c =
@@ -79,7 +82,7 @@ returns-6 c =
     let d = o .before .before in
     let p = d .before .before in
     let h = p .before .before in
-    simp (free (h .before .before), housed h, placed p, shallow d, once o, sym (c .before .overfull .ensures) ∙ c .if6 .taken)
+    simp (free (h .before .before), housed h, placed p, shallow d, once o, over c)
 
 fits : (c : tie.Else6) → (let s = c .before .before .before .before .before .before .before .before .before .before .before .before .args in overfullBy (s .tonnage-length) (s .x) (searched (s .found)) (s .around .beside) ≡ false)
 fits c = sym (c .before .overfull .ensures) ∙ c .if6 .left

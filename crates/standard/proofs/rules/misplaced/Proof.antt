@@ -1,5 +1,4 @@
 -- `rules::misplaced` meets its contract.
-use mathlib.Core.Path.{_∙_}
 use Rattle.measure.proofs.laws.Tests.{holds, fails}
 use borrow.Author.Needs.{needs}
 use Rattle.standard.proofs.rules.misplaced.Statement.{statement}

@@ -5,7 +5,6 @@ use native.Mathlib.Omega.{arith}
 use borrow.Author.Tests.{ltb-true, ltb-false, lt-ltb, le-ltb}
 use lib.Dec.{ltb}
 use Rattle.spaces.proofs.laws.Cases.{by-test}
-use borrow.Author.Needs.{needs}
 use Rattle.standard.proofs.rules.passes.Statement.{statement}
 use Rattle.standard.proofs.rules.passes.Tie as tie
 

@@ -1,4 +1,4 @@
--- `space::may_take` meets its contract: outside the table nothing may, and inside it is the table's entry.
+-- `standings::may_take` meets its contract: outside the table nothing may, and inside it is the table's entry.
 use mathlib.Core.Path.{_≡_, sym, ap}
 use Prim.Native.Nat.{ℕ, suc, _-_}
 use Rattle.standard.specs.Standings.{mayTake}
