@@ -4,12 +4,11 @@ use mathlib.Core.Path.{_≡_, refl, sym, ap, ap₂, _∙_, subst}
 use mathlib.Core.Bool.{cond}
 use mathlib.Core.List.{List, [], _∷_, _++_, append-nil}
 use native.Mathlib.Nat.{min-eq-left, min-eq-right}
-use native.Mathlib.Numerals.{add-one}
 use native.Mathlib.Omega.{arith}
 use borrow.Author.Tests.{eqb-true, eqb-false, ltb-true, ltb-false, lt-ltb, le-ltb}
 use lib.Dec.{eqb, ltb}
 use lib.ListN.{length, take, getD, set, replicate, length-set, length-replicate, getD-replicate, List·getD-append}
-use lib.Seq.{length-take-le, take-suc, getD-set-same, getD-set-other, set-at, append-snoc, take-all}
+use lib.Seq.{length-take-le, getD-set-same, getD-set-other, set-at, append-snoc, take-all}
 use Rattle.spaces.specs.Space.{emptySpace, isRoom}
 use Rattle.spaces.specs.Row.{placeOf, stands, amountOf, sumOf}
 use Rattle.spaces.specs.Enclosure.{above, walked}
@@ -20,7 +19,7 @@ use Rattle.spaces.specs.declared.sums.Amount.{Amount}
 use Rattle.spaces.specs.declared.sums.Amount.the-variants.{Inside, Lengths}
 use Rattle.spaces.specs.declared.around.Around.{Around}
 use Rattle.spaces.proofs.laws.Cases.{by-test}
-use Rattle.spaces.proofs.laws.Row.{sum-append}
+use Rattle.spaces.proofs.laws.Row.{one-passed, sum-append}
 use Rattle.spaces.proofs.laws.Places.{one-id-at, place-bounded}
 use Rattle.spaces.proofs.laws.Climb.{stands-before, place-before, climbed-walk, standing-there}
 
@@ -44,12 +43,9 @@ nothing-summed xs h =
     }
 
 -- one record more
-more : (xs : List Space) (i : ℕ) → i < length xs → take i xs ++ (getD xs i emptySpace ∷ []) ≡ take (i + 1) xs
-more xs i h = sym (take-suc xs i emptySpace h) ∙ ap (λ (k : ℕ). take k xs) (sym (add-one i))
-
 sum-more : (a : Amount) (xs : List Space) (i : ℕ) → i < length xs → sumOf a (take (i + 1) xs) ≡ sumOf a (take i xs) + amountOf a (getD xs i emptySpace)
 sum-more a xs i h =
-    ap (sumOf a) (sym (more xs i h)) ∙ sum-append (amountOf a) (take i xs) (getD xs i emptySpace ∷ []) ∙ omega arith
+    ap (sumOf a) (sym (one-passed xs i h)) ∙ sum-append (amountOf a) (take i xs) (getD xs i emptySpace ∷ []) ∙ omega arith
 
 -- one record more, at the place of its enclosing space
 module _ (xs : List Space) (i : ℕ) (inside : List ℕ) (lengths : ℕ) (s : Summed xs i inside lengths) (h : i < length xs) (most : length xs ≤ 200) where
@@ -203,7 +199,7 @@ around-more xs i h most =
     ap (λ (l : List Around). set (aroundFrom [] (take i xs) ++ l) i a) one
     ∙ set-at (aroundFrom [] (take i xs)) nothingAround left a i met
     ∙ sym (append-snoc (aroundFrom [] (take i xs)) a left)
-    ∙ ap (λ (l : List Around). l ++ left) (sym (around-snoc [] (take i xs) (getD xs i emptySpace)) ∙ ap (aroundFrom []) (more xs i h))
+    ∙ ap (λ (l : List Around). l ++ left) (sym (around-snoc [] (take i xs) (getD xs i emptySpace)) ∙ ap (aroundFrom []) (one-passed xs i h))
 
 -- and of all
 pub around-all : (xs : List Space) (i : ℕ) → i ≡ length xs → aroundFirst xs i ≡ eachAround xs

@@ -25,7 +25,7 @@ use Rattle.spaces.proofs.laws.Index.{column-at, column-take, place-of-i
 -- ---- among the first i spaces
 
 -- an id stands there where its place is before i
-pub found-before : (id : ℕ) (xs : List Space) (i : ℕ) → i ≤ length xs
+found-before : (id : ℕ) (xs : List Space) (i : ℕ) → i ≤ length xs
     → find id (take i xs) ≡ cond (ltb (placeOf id xs) i) (some (getD xs (placeOf id xs) emptySpace)) none
 found-before id xs zero h = sym (ap (λ (b : Bool). cond b (some (getD xs (placeOf id xs) emptySpace)) none) (le-ltb (placeOf id xs) 0 (omega arith)))
 found-before id [] (suc i) h = absurd (omega arith)
@@ -48,19 +48,19 @@ stands-before id xs i h = ap isSome (found-before id xs i h) ∙ some-where (ltb
     some-where false = refl
 
 -- its place there is its place, or the one after the last
-place-first : (id : ℕ) (xs : List Space) (i : ℕ) → i ≤ length xs → placeOf id (take i xs) ≡ min (placeOf id xs) i
-place-first id xs zero h = sym (min-eq-right (omega arith))
-place-first id [] (suc i) h = absurd (omega arith)
-place-first id (x ∷ xs) (suc i) h =
+place-in-first : (id : ℕ) (xs : List Space) (i : ℕ) → i ≤ length xs → placeOf id (take i xs) ≡ min (placeOf id xs) i
+place-in-first id xs zero h = sym (min-eq-right (omega arith))
+place-in-first id [] (suc i) h = absurd (omega arith)
+place-in-first id (x ∷ xs) (suc i) h =
     by-test (eqb (x .id) id)
     (λ t. rw t (sym (min-eq-left (omega arith))))
-    (λ f. rw f (ap suc (place-first id xs i (omega arith)) ∙ sym (suc-min-suc (placeOf id xs) i)))
+    (λ f. rw f (ap suc (place-in-first id xs i (omega arith)) ∙ sym (suc-min-suc (placeOf id xs) i)))
 
 -- and so of the enclosing space of any
 pub place-before : (x : Space) (xs : List Space) (i : ℕ) → i ≤ length xs → enclosingPlace (take i xs) x ≡ min (enclosingPlace xs x) i
 place-before x xs i h =
     by-test (isRoom x)
-    (λ r. rw r (place-first (x .within) xs i h))
+    (λ r. rw r (place-in-first (x .within) xs i h))
     (λ r. rw r (length-take i xs ∙ min-comm i (length xs)))
 
 -- the enclosing space of any stands there where its place does

@@ -9,12 +9,13 @@ use native.Mathlib.Omega.{arith}
 use borrow.Author.Tests.{eq-eqb, ne-eqb, eqb-true, eqb-false}
 use lib.Dec.{eqb}
 use lib.ListN.{length, take, drop, getD, set, replicate, length-take, length-set, length-replicate, getD-replicate, drop-of-length-le}
-use lib.Seq.{drop-cons, getD-take, getD-set-same, getD-set-other, take-suc, take-suc-set, take-all, length-take-le}
+use lib.Seq.{drop-cons, getD-take, getD-set-same, getD-set-other, take-suc-set, take-all, length-take-le}
 use Rattle.spaces.specs.Space.{emptySpace, isRoom}
 use Rattle.spaces.specs.Row.{placeOf}
 use Rattle.spaces.specs.Handed.{asked, column, idsOf, placeIn, askedIn, Indexed}
 use Rattle.spaces.specs.declared.space.Space.{Space}
 use Rattle.spaces.proofs.laws.Cases.{by-test}
+use Rattle.spaces.proofs.laws.Row.{one-passed}
 
 -- ---- a number of each space
 
@@ -23,14 +24,10 @@ module _ (f : Space → ℕ) where
   column-append [] ys = refl
   column-append (x ∷ xs) ys = ap (λ (l : List ℕ). f x ∷ l) (column-append xs ys)
 
-  pub column-take : (n : ℕ) (xs : List Space) → take n (column f xs) ≡ column f (take n xs)
+  column-take : (n : ℕ) (xs : List Space) → take n (column f xs) ≡ column f (take n xs)
   column-take zero xs = refl
   column-take (suc n) [] = refl
   column-take (suc n) (x ∷ xs) = ap (λ (l : List ℕ). f x ∷ l) (column-take n xs)
-
-  pub column-length : (xs : List Space) → length (column f xs) ≡ length xs
-  column-length [] = refl
-  column-length (x ∷ xs) = ap suc (column-length xs)
 
   pub column-at : (xs : List Space) (i : ℕ) → i < length xs → getD (column f xs) i 0 ≡ f (getD xs i emptySpace)
   column-at [] i h = absurd (omega arith)
@@ -46,13 +43,13 @@ module _ (f : Space → ℕ) where
       ∙ take-suc-set row i v g
       ∙ ap (λ (l : List ℕ). l ++ (v ∷ [])) e
       ∙ sym (column-append (take i xs) (getD xs i emptySpace ∷ []))
-      ∙ ap (column f) (sym (take-suc xs i emptySpace h) ∙ ap (λ (k : ℕ). take k xs) (sym (add-one i)))
+      ∙ ap (column f) (one-passed xs i h)
 
   pub column-whole : (xs : List Space) (row : List ℕ) (n : ℕ) → length xs ≤ n → length row ≤ n → take n row ≡ column f (take n xs)
       → row ≡ column f xs
   column-whole xs row n h g e = sym (take-all n row g) ∙ e ∙ ap (column f) (take-all n xs h)
 
-pub place-of-ids : (id : ℕ) (xs : List Space) → placeIn id (idsOf xs) ≡ placeOf id xs
+place-of-ids : (id : ℕ) (xs : List Space) → placeIn id (idsOf xs) ≡ placeOf id xs
 place-of-ids id [] = refl
 place-of-ids id (x ∷ xs) = by-test (eqb (x .id) id) (λ t. rw t) (λ f. rw f (ap suc (place-of-ids id xs)))
 

@@ -1,18 +1,25 @@
--- The standing spaces are the first `count` of 200 places: one taken off the front, and what is left at the end.
+-- Some spaces, one at a time; and those that stand, the first `count` of 200 places: one taken off the front, and what is left at the end.
 use mathlib.Core.Path.{_≡_, refl, sym, ap, _∙_}
 use mathlib.Core.Bool.{Bool, true, false}
 use borrow.Author.Tests.{leb-true, leb-false}
 use lib.Dec.{leb}
 use mathlib.Core.List.{List, [], _∷_, _++_}
-use Prim.Native.Nat.{ℕ, suc, _+_, _≤_, _<_, min}
+use Prim.Native.Nat.{ℕ, _+_, _≤_, _<_, min}
 use native.Mathlib.Nat.{min-le-left, min-eq-left, min-eq-right, lt-of-lt-of-le}
 use native.Mathlib.Numerals.{add-one}
 use native.Mathlib.Omega.{arith}
 use lib.ListN.{length, take, drop, getD, length-take, drop-of-length-le}
-use lib.Seq.{drop-cons, getD-take, take-all}
+use lib.Seq.{drop-cons, take-suc, getD-take, take-all}
 use Rattle.spaces.specs.Space.{emptySpace}
 use Rattle.spaces.specs.Row.{used, sumBy}
 use Rattle.spaces.specs.declared.space.Space.{Space}
+
+module _ (xs : List Space) (i : ℕ) (h : i < length xs) where
+  pub one-ahead : drop i xs ≡ getD xs i emptySpace ∷ drop (i + 1) xs
+  one-ahead = drop-cons xs i emptySpace h ∙ ap (λ (k : ℕ). getD xs i emptySpace ∷ drop k xs) (sym (add-one i))
+
+  pub one-passed : take i xs ++ (getD xs i emptySpace ∷ []) ≡ take (i + 1) xs
+  one-passed = sym (take-suc xs i emptySpace h) ∙ ap (λ (k : ℕ). take k xs) (sym (add-one i))
 
 module _ (spaces : List Space) (count : ℕ) (full : length spaces ≡ 200) where
   pub used-is : used count ≡ length (take count spaces)
@@ -24,9 +31,7 @@ module _ (spaces : List Space) (count : ℕ) (full : length spaces ≡ 200) wher
   pub standing-step : (i : ℕ) → i < used count → drop i (take count spaces) ≡ getD spaces i emptySpace ∷ drop (i + 1) (take count spaces)
   standing-step i h =
       let xs = take count spaces in
-      drop-cons xs i emptySpace (omega (arith, used-is))
-      ∙ ap (λ (x : Space). x ∷ drop (suc i) xs) (standing-at i h)
-      ∙ ap (λ (k : ℕ). getD spaces i emptySpace ∷ drop k xs) (sym (add-one i))
+      one-ahead xs i (omega (arith, used-is)) ∙ ap (λ (x : Space). x ∷ drop (i + 1) xs) (standing-at i h)
 
   pub standing-end : (i : ℕ) → used count ≤ i → drop i (take count spaces) ≡ []
   standing-end i h = drop-of-length-le (take count spaces) {i = i} (omega (arith, used-is))

@@ -2,40 +2,34 @@
 use Prim.Native.Nat.{ℕ, _+_, _≤_, _<_}
 use mathlib.Core.Path.{_≡_, refl, sym, ap, _∙_}
 use mathlib.Core.Bool.{false, cond}
-use mathlib.Core.List.{List, [], _∷_, _++_}
+use mathlib.Core.List.{List}
 use mathlib.Core.Option.{Option}
-use native.Mathlib.Numerals.{add-one}
 use native.Mathlib.Omega.{arith}
 use borrow.Author.Tests.{eq-eqb, ne-eqb, lt-leb}
 use lib.ListN.{length, take, drop, getD, drop-of-length-le}
-use lib.Seq.{length-take-le, drop-cons, take-suc}
+use lib.Seq.{length-take-le}
 use Rattle.measure.specs.declared.units.Hundredths.{Hundredths}
 use Rattle.spaces.specs.Space.{emptySpace}
 use Rattle.spaces.specs.Around.{aroundOf}
 use Rattle.spaces.specs.declared.space.Space.{Space}
 use Rattle.spaces.specs.declared.around.Around.{Around}
 use Rattle.spaces.proofs.laws.Cases.{by-test}
+use Rattle.spaces.proofs.laws.Row.{one-ahead, one-passed}
 use Rattle.standard.specs.Rules.{entryNumber}
 use Rattle.standard.specs.Records.{misrecorded, recordNumber, firstRefused}
 use Rattle.standard.specs.Handed.{judgedNumber}
 use Rattle.standard.proofs.laws.Judged.{enclosedAt, judged-is}
 
 module _ (L : Hundredths) (xs : List Space) (i : ℕ) where
-  step : i < length xs → drop i xs ≡ getD xs i emptySpace ∷ drop (i + 1) xs
-  step h = drop-cons xs i emptySpace h ∙ ap (λ (k : ℕ). getD xs i emptySpace ∷ drop k xs) (sym (add-one i))
-
-  more : i < length xs → take i xs ++ (getD xs i emptySpace ∷ []) ≡ take (i + 1) xs
-  more h = sym (take-suc xs i emptySpace h) ∙ ap (λ (k : ℕ). take k xs) (sym (add-one i))
-
   pub record-passed : i < length xs → recordNumber L (take i xs) (getD xs i emptySpace) ≡ 0
       → firstRefused L (take i xs) (drop i xs) ≡ firstRefused L (take (i + 1) xs) (drop (i + 1) xs)
   record-passed h e =
-      ap (firstRefused L (take i xs)) (step h) ∙ rw (eq-eqb _ 0 e) (ap (λ (l : List Space). firstRefused L l (drop (i + 1) xs)) (more h))
+      ap (firstRefused L (take i xs)) (one-ahead xs i h) ∙ rw (eq-eqb _ 0 e) (ap (λ (l : List Space). firstRefused L l (drop (i + 1) xs)) (one-passed xs i h))
 
   pub record-refused : i < length xs → (recordNumber L (take i xs) (getD xs i emptySpace) ≡ 0 → ⊥)
       → firstRefused L (take i xs) (drop i xs) ≡ record { number = recordNumber L (take i xs) (getD xs i emptySpace); position = i + 1 }
   record-refused h e =
-      ap (firstRefused L (take i xs)) (step h)
+      ap (firstRefused L (take i xs)) (one-ahead xs i h)
       ∙ rw (ne-eqb _ 0 e)
       (ap (λ (k : ℕ). record { number = recordNumber L (take i xs) (getD xs i emptySpace); position = k + 1 }) (length-take-le i xs (omega arith)))
 

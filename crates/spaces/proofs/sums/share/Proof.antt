@@ -69,9 +69,7 @@ returns c =
     (rw (c .before .before .before .which .given .1) (c .only .ensures .0 ∙ ap (λ (t : Bool). only t (s .args .x .tonnage)) (c .before .is-inside .ensures)), c .only .ensures .1)
 
 returns-2 : tie.Need-returns-2
-returns-2 c =
-    let s = c .before .before .before .before .before in
-    (rw (c .before .before .before .which2 .given .1) (c .only2 .ensures .0 ∙ ap (λ (t : Bool). only t 1) (c .before .is-inside2 .ensures)), c .only2 .ensures .1)
+returns-2 c = (rw (c .before .before .before .which2 .given .1) (c .only2 .ensures .0 ∙ ap (λ (t : Bool). only t 1) (c .before .is-inside2 .ensures)), c .only2 .ensures .1)
 
 returns-3 : tie.Need-returns-3
 returns-3 c = (rw (c .before .before .enum-told .given .1) (c .only3 .ensures .0), c .only3 .ensures .1)
