@@ -1,7 +1,7 @@
 -- What the functions inside the crate answer one another. No promise of a public function cites anything here.
 use Prim.Native.Nat.{ℕ, _+_}
 use mathlib.Core.Bool.{Bool, not, _&&_, _||_}
-use mathlib.Core.List.{[], _∷_}
+use mathlib.Core.List.{List, [], _∷_}
 use mathlib.Core.Option.{Option, none, some}
 use lib.Dec.{leb, ltb}
 use Rattle.measure.specs.Refusals.{firstOf}
@@ -26,14 +26,16 @@ overfullBy L x none beside = isUnderDeck x && ltb L.0 (beside + x .length .0)
 overfullBy L x (some z) beside = ltb (z .tonnage) (beside + x .tonnage)
 
 -- the tests of entry in the table's order, by the enclosing space and what else is around
-unfoldable pub judgedNumber : Hundredths → Space → Option Space → Around → Bool → ℕ
-judgedNumber L x o a full =
-    firstOf
-    ((ltb (x .id) 1 || ltb 9999 (x .id) || a .taken, 4)
+abbrev pub judgedTests : Hundredths → Space → Option Space → Around → Bool → List (Bool × ℕ)
+judgedTests L x o a full =
+    (ltb (x .id) 1 || ltb 9999 (x .id) || a .taken, 4)
     ∷ (isRoom x && not (isSome o), 5)
     ∷ (not (mayTake (x .kind) (x .standing)) || inHatchway o, 6)
     ∷ (leb 8 (a .levels), 7)
     ∷ (not (isPlain x) && not (a .plain), 8)
     ∷ (overfullBy L x o (a .beside), 9)
     ∷ (full, 10)
-    ∷ [])
+    ∷ []
+
+unfoldable pub judgedNumber : Hundredths → Space → Option Space → Around → Bool → ℕ
+judgedNumber L x o a full = firstOf (judgedTests L x o a full)
