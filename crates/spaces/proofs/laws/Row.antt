@@ -1,4 +1,5 @@
--- Some spaces, one at a time; and those that stand, the first `count` of 200 places: one taken off the front, and what is left at the end.
+-- Some spaces, one at a time; and those that stand, the first `count` of 200 places: one taken off the front, and what is left at
+-- the end.
 use mathlib.Core.Path.{_≡_, refl, sym, ap, _∙_}
 use mathlib.Core.Bool.{Bool, true, false}
 use borrow.Author.Tests.{leb-true, leb-false}

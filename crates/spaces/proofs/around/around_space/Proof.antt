@@ -1,4 +1,4 @@
--- `around::around_space` meets its contract.
+-- `around::around_space` meets its contract: each part is what its own search, walk or sum answers.
 use Rattle.spaces.specs.Around.{aroundOf}
 use borrow.Author.Needs.{needs}
 use Rattle.spaces.proofs.around.around_space.Statement.{statement}

@@ -1,4 +1,4 @@
--- `around::beside` meets its contract: a home before the last space is one where there is an enclosing space.
+-- `around::beside` meets its contract: a home among the places used is one among the spaces that stand.
 use mathlib.Core.Path.{_≡_, _∙_}
 use borrow.Author.Tests.{lt-ltb, le-ltb}
 use lib.ListN.{length, take}

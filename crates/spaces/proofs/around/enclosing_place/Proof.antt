@@ -1,4 +1,4 @@
--- `around::enclosing_place` meets its contract.
+-- `around::enclosing_place` meets its contract: where there is none, as many places are used as spaces stand.
 use mathlib.Core.Path.{_≡_, _∙_}
 use borrow.Author.Tests.{eq-eqb, ne-eqb}
 use lib.ListN.{length}

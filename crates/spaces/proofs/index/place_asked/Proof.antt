@@ -1,4 +1,4 @@
--- `index::place_asked` meets its contract.
+-- `index::place_asked` meets its contract: the place of its own id, or of its enclosing one.
 use borrow.Author.Tests.{eq-eqb, ne-eqb}
 use borrow.Author.Needs.{needs}
 use Rattle.spaces.proofs.index.place_asked.Statement.{statement}

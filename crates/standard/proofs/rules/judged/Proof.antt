@@ -1,4 +1,5 @@
--- `rules::judged` meets its contract: the tests of 4 to 10, in the table's order. After each test passed the number is that of the rest.
+-- `rules::judged` meets its contract: the tests of 4 to 10, in the table's order. After each test passed the number is that of the
+-- rest.
 use Prim.Native.Nat.{ℕ}
 use mathlib.Core.Path.{_≡_, sym, _∙_}
 use borrow.Author.Tests.{le-leb, lt-leb}
