@@ -8,7 +8,6 @@ use spaces::row::lesser;
 use spaces::space::Space;
 use spaces::space::empty;
 ghost use mathlib.Core.Path.{_≡_};
-ghost use Prim.Native.Nat.{min};
 ghost use Rattle.sheet.specs.Sheet.{standing as standingOf, kept, changeOf};
 ghost use Rattle.sheet.specs.Handed.{Places, OpenPlaces};
 ghost use Rattle.sheet.specs.Changes.{made as madeOf, takenBack, noted as notedOf, fitted, withoutLast, removed, inserted, restood};

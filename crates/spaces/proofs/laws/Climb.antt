@@ -25,7 +25,7 @@ use Rattle.spaces.proofs.laws.Index.{column-at, column-take, place-of-i
 -- ---- among the first i spaces
 
 -- an id stands there where its place is before i
-found-before : (id : ℕ) (xs : List Space) (i : ℕ) → i ≤ length xs
+pub found-before : (id : ℕ) (xs : List Space) (i : ℕ) → i ≤ length xs
     → find id (take i xs) ≡ cond (ltb (placeOf id xs) i) (some (getD xs (placeOf id xs) emptySpace)) none
 found-before id xs zero h = sym (ap (λ (b : Bool). cond b (some (getD xs (placeOf id xs) emptySpace)) none) (le-ltb (placeOf id xs) 0 (omega arith)))
 found-before id [] (suc i) h = absurd (omega arith)

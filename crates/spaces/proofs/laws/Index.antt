@@ -24,7 +24,7 @@ module _ (f : Space → ℕ) where
   column-append [] ys = refl
   column-append (x ∷ xs) ys = ap (λ (l : List ℕ). f x ∷ l) (column-append xs ys)
 
-  column-take : (n : ℕ) (xs : List Space) → take n (column f xs) ≡ column f (take n xs)
+  pub column-take : (n : ℕ) (xs : List Space) → take n (column f xs) ≡ column f (take n xs)
   column-take zero xs = refl
   column-take (suc n) [] = refl
   column-take (suc n) (x ∷ xs) = ap (λ (l : List ℕ). f x ∷ l) (column-take n xs)
@@ -49,7 +49,7 @@ module _ (f : Space → ℕ) where
       → row ≡ column f xs
   column-whole xs row n h g e = sym (take-all n row g) ∙ e ∙ ap (column f) (take-all n xs h)
 
-place-of-ids : (id : ℕ) (xs : List Space) → placeIn id (idsOf xs) ≡ placeOf id xs
+pub place-of-ids : (id : ℕ) (xs : List Space) → placeIn id (idsOf xs) ≡ placeOf id xs
 place-of-ids id [] = refl
 place-of-ids id (x ∷ xs) = by-test (eqb (x .id) id) (λ t. rw t) (λ f. rw f (ap suc (place-of-ids id xs)))
 

@@ -1,9 +1,9 @@
 -- `enclosure::walk` meets its contract: the levels left fall with each step, and a step is the definition's first one.
 use Prim.Native.Nat.{ℕ, _-_, _<_}
-use mathlib.Core.Path.{_≡_, sym, ap, _∙_}
+use mathlib.Core.Path.{sym, ap, _∙_}
 use native.Mathlib.Omega.{arith}
-use lib.ListN.{take, getD}
-use Rattle.spaces.specs.Handed.{pastOf, walkedBy, placeIn}
+use lib.ListN.{getD}
+use Rattle.spaces.specs.Handed.{pastOf, walkedBy}
 use Rattle.spaces.specs.declared.enclosure.Above.{Above}
 use Rattle.spaces.proofs.laws.Climb.{walked-nowhere, walked-on, walked-short}
 use borrow.Author.Needs.{needs}

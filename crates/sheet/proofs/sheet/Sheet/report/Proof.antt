@@ -8,7 +8,6 @@ use borrow.Author.Tests.{lt-ltb, le-ltb, ne-eqb, eq-eqb}
 use lib.Dec.{eqb, ltb}
 use Rattle.measure.specs.Refusals.{firstOf}
 use Rattle.spaces.specs.Row.{sumOf}
-use Rattle.standard.specs.Gross.{needsMark}
 use Rattle.spaces.specs.declared.sums.Amount.the-variants.{Lengths}
 use Rattle.standard.specs.declared.gross.Reckoning.{Reckoning}
 use Rattle.sheet.specs.Sheet.{standing, usable}
