@@ -143,17 +143,15 @@ impl Sheet {
             };
         }
         let spaces = self.spaces;
-        let count = self.count;
-        let ruling = withdraw_ruling(spaces, count, id);
+        let ruling = withdraw_ruling(spaces, self.count, id);
         if ruling.number != 0 {
             return Changed {
                 number: ruling.number,
                 sheet: self,
             };
         }
-        let place = ruling.place;
-        let x = spaces[place];
-        let change = Change::Withdrawn(place, x);
+        let x = ruling.space;
+        let change = Change::Withdrawn(ruling.place, x);
         Changed {
             number: 0,
             sheet: self.made(change).noted(change),
@@ -177,17 +175,15 @@ impl Sheet {
             };
         }
         let spaces = self.spaces;
-        let count = self.count;
-        let ruling = mark_ruling(spaces, count, id, standing);
+        let ruling = mark_ruling(spaces, self.count, id, standing);
         if ruling.number != 0 {
             return Changed {
                 number: ruling.number,
                 sheet: self,
             };
         }
-        let place = ruling.place;
-        let before = spaces[place];
-        let change = Change::Marked(place, before.standing, standing);
+        let x = ruling.space;
+        let change = Change::Marked(ruling.place, x.standing, standing);
         Changed {
             number: 0,
             sheet: self.made(change).noted(change),

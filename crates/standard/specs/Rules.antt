@@ -9,7 +9,7 @@ use lib.ListN.{length}
 use Rattle.measure.specs.Refusals.{firstOf}
 use Rattle.measure.specs.declared.units.Hundredths.{Hundredths}
 use Rattle.spaces.specs.Space.{isUnderDeck, isHatchway, isRoom, isPlain}
-use Rattle.spaces.specs.Row.{find, placeOf, stands, sumOf}
+use Rattle.spaces.specs.Row.{find, placeOf, spaceWith, stands, sumOf}
 use Rattle.spaces.specs.Enclosure.{enclosing, above, level, allPlain, below}
 use Rattle.spaces.specs.declared.space.Space.{Space}
 use Rattle.spaces.specs.declared.sums.Amount.the-variants.{Inside, Rooms, Lengths}
@@ -76,9 +76,9 @@ withdrawTests xs id = (not (stands id xs), 5) ∷ (enclosesRoom xs id, 11) ∷ [
 unfoldable pub withdrawNumber : List Space → ℕ → ℕ
 withdrawNumber xs id = firstOf (withdrawTests xs id)
 
--- its number with the place of the space with the id
+-- its number, with the place of the space with the id and that space
 unfoldable pub withdrawRuling : List Space → ℕ → Ruling
-withdrawRuling xs id = record { number = withdrawNumber xs id; place = placeOf id xs }
+withdrawRuling xs id = record { number = withdrawNumber xs id; place = placeOf id xs; space = spaceWith (find id xs) }
 
 -- 6 of a mark: the kind of the space with the id can't take the standing
 abbrev pub cannotTake : Option Space → ℕ → Bool
@@ -101,4 +101,4 @@ unfoldable pub markNumber : List Space → ℕ → ℕ → ℕ
 markNumber xs id standing = firstOf (markTests xs id standing)
 
 unfoldable pub markRuling : List Space → ℕ → ℕ → Ruling
-markRuling xs id standing = record { number = markNumber xs id standing; place = placeOf id xs }
+markRuling xs id standing = record { number = markNumber xs id standing; place = placeOf id xs; space = spaceWith (find id xs) }

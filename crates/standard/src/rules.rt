@@ -24,6 +24,7 @@ use spaces::row::lesser;
 use spaces::row::place_of;
 use spaces::row::used;
 use spaces::space::Space;
+use spaces::space::empty;
 use spaces::sums::Amount;
 use spaces::sums::sum;
 ghost use mathlib.Core.Path.{_≡_};
@@ -32,7 +33,7 @@ ghost use mathlib.Core.Option.{none, some};
 ghost use Prim.Native.Nat.{_+_};
 ghost use lib.Dec.{eqb, ltb};
 ghost use lib.ListN.{take};
-ghost use Rattle.spaces.specs.Space.{isRoom, isPlain};
+ghost use Rattle.spaces.specs.Space.{emptySpace, isRoom, isPlain};
 ghost use Rattle.spaces.specs.Row.{isSome};
 ghost use Rattle.spaces.specs.Enclosure.{above, allPlain, below};
 ghost use Rattle.standard.specs.Standings.{mayTake};
@@ -42,11 +43,12 @@ ghost use Rattle.standard.specs.Handed.{searched, overfullBy, judgedNumb
 // Ids go from 1 to 9,999.
 pub const GREATEST_ID: u16 = 9_999;
 
-// A withdrawal or a mark judged: the number with which it is refused, or 0, and the place of the space with its id, from 0; as many
-// as stand where none has it.
+// A withdrawal or a mark judged: the number with which it is refused, or 0, and the space with its id and the place of that, from 0;
+// an empty record and as many as stand where none has it.
 pub struct Ruling {
     pub number: u8,
     pub place: usize,
+    pub space: Space,
 }
 
 // 4: new id outside its range or already standing.
@@ -189,24 +191,34 @@ fn encloses_room(spaces: [Space; 200], count: usize, id: u16) -> bool
     0 < sum(spaces, count, Amount::Rooms(id))
 }
 
-// The space with an id is searched for once: the number comes with its place.
+// The space with an id is searched for once: the number comes with its place and itself.
 pub fn withdraw_ruling(spaces: [Space; 200], count: usize, id: u16) -> Ruling
     ensures { λ r. ⌜ r ≡ withdrawRuling (take count spaces) id ⌝ }
 {
     let place = place_of(spaces, count, id);
     if used(count) <= place {
-        return Ruling {
-            number: NOT_STANDING,
-            place,
-        };
+        return unfound(place);
     }
+    let space = spaces[place];
+    let mut number = 0;
     if encloses_room(spaces, count, id) {
-        return Ruling {
-            number: ENCLOSES_ROOM,
-            place,
-        };
+        number = ENCLOSES_ROOM;
     }
-    Ruling { number: 0, place }
+    Ruling {
+        number,
+        place,
+        space,
+    }
+}
+
+fn unfound(place: usize) -> Ruling
+    ensures { λ r. ⌜ r ≡ record { number = 5; place = place; space = emptySpace } ⌝ }
+{
+    Ruling {
+        number: NOT_STANDING,
+        place,
+        space: empty(),
+    }
 }
 
 // 8 of a mark: not plain, and a space above or below isn't plain.
@@ -228,23 +240,18 @@ pub fn mark_ruling(spaces: [Space; 200], count: usize, id: u16, standing: u8) ->
 {
     let place = place_of(spaces, count, id);
     if used(count) <= place {
-        return Ruling {
-            number: NOT_STANDING,
-            place,
-        };
+        return unfound(place);
     }
-    let z = spaces[place];
-    if !may_take(z.kind, standing) {
-        return Ruling {
-            number: MISPLACED,
-            place,
-        };
+    let space = spaces[place];
+    let mut number = 0;
+    if !may_take(space.kind, standing) {
+        number = MISPLACED;
+    } else if marked_twice(spaces, count, space, id, standing) {
+        number = OFF_TWICE;
     }
-    if marked_twice(spaces, count, z, id, standing) {
-        return Ruling {
-            number: OFF_TWICE,
-            place,
-        };
+    Ruling {
+        number,
+        place,
+        space,
     }
-    Ruling { number: 0, place }
 }

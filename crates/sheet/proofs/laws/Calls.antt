@@ -1,19 +1,14 @@
 -- How a call's number follows from its tests, and what is answered with it.
 use mathlib.Core.Path.{_≡_, refl, sym, ap, _∙_}
-use native.Mathlib.Omega.{arith}
 use mathlib.Core.Bool.{Bool, true, false, cond, not}
 use mathlib.Core.List.{List, _∷_}
-use Prim.Native.Nat.{ℕ, _<_}
-use borrow.Author.Tests.{ne-eqb, eqb-true, eqb-false, not-false}
+use Prim.Native.Nat.{ℕ}
+use borrow.Author.Tests.{ne-eqb, eqb-true, eqb-false}
 use lib.Dec.{eqb, leb}
-use lib.ListN.{length, getD}
-use lib.Seq.{length-take-le, getD-take}
+use lib.ListN.{length}
 use Rattle.measure.specs.Refusals.{firstOf}
-use Rattle.spaces.specs.Space.{emptySpace}
-use Rattle.spaces.specs.Row.{find, placeOf, isSome, stands, spaceWith}
 use Rattle.spaces.specs.declared.space.Space.{Space}
-use Rattle.spaces.proofs.laws.Cases.{by-test, by-option, not-both}
-use Rattle.spaces.proofs.laws.Places.{placed}
+use Rattle.spaces.proofs.laws.Cases.{by-test}
 use Rattle.sheet.specs.Sheet.{standing, usable}
 use Rattle.sheet.specs.Changes.{withStanding, fitted}
 use Rattle.sheet.specs.Calls.{answered}
@@ -67,19 +62,3 @@ places {s} j e = record { count = usable-counts s (sym (j .usable-is) ∙ e) .pl
 
 pub open-places : {s : Sheet} {r : Bool} → Judged s r → r ≡ true → OpenPlaces s
 open-places {s} j e = record { count = usable-counts s (sym (j .usable-is) ∙ e) .undoable; all = j .changes }
-
--- where 5 isn't given, the id has a place among those that stand, and the space found by it lies there
-pub record PlaceOf (s : Sheet) (id : ℕ) : Type 0 where
-  pub taken : placeOf id (standing s) < s .count
-  pub there : getD (s .spaces) (placeOf id (standing s)) emptySpace ≡ spaceWith (find id (standing s))
-
-pub has-place : (s : Sheet) (id : ℕ) (tests : List (Bool × ℕ)) → Places s → firstOf ((not (stands id (standing s)), 5) ∷ tests) ≡ 0 → PlaceOf s id
-has-place s id tests whole e =
-    let xs = standing s in
-    let st = not-false (stands id xs) (passed (not (stands id xs)) 5 tests e (λ w. omega arith) .0) in
-    by-option (find id xs)
-    (λ n. not-both st (ap isSome n))
-    (λ z f.
-    let p = placed id xs {z = z} f in
-    let h : placeOf id xs < s .count = omega (arith, p .in-order, length-take-le (s .count) (s .spaces) (omega (arith, whole .count, whole .all))) in
-    record { taken = h; there = sym (getD-take (s .count) (s .spaces) (placeOf id xs) emptySpace h) ∙ p .there ∙ sym (ap spaceWith f) })

@@ -1,9 +1,11 @@
--- `rules::mark_ruling` meets its contract: the tests of 5, 6 and 8, in the table's order, and the place.
-use mathlib.Core.Path.{_≡_, sym, _∙_}
+-- `rules::mark_ruling` meets its contract: the tests of 5, 6 and 8, in the table's order, the place and the space.
+use mathlib.Core.Path.{_≡_, sym, ap, _∙_}
+use Prim.Native.Nat.{ℕ}
 use native.Mathlib.Nat.{min-le-right}
 use native.Mathlib.Omega.{arith}
-use lib.ListN.{length}
+use lib.ListN.{length, getD}
 use Rattle.measure.proofs.laws.Tests.{holds, fails}
+use Rattle.spaces.specs.Space.{emptySpace}
 use Rattle.standard.specs.Rules.{markNumber, markRuling}
 use Rattle.standard.proofs.laws.Judged.{FoundBy, found-by}
 use borrow.Author.Needs.{needs}
@@ -22,30 +24,33 @@ found u =
     let full : length (a .t1) ≡ 200 = search needs in
     found-by (a .t1) (a .count) (a .id) full (u .before .place-of .ensures) (u .used .ensures)
 
+unfound-requires : tie.Need-unfound-requires
+unfound-requires c κs = search needs
+
 returns : tie.Need-returns
 unfolding markNumber markRuling
 returns c =
-    let u = c .before in
-    simp (u .before .place-of .ensures, found u .nowhere (c .if1 .taken))
+    let u = c .before .before in
+    c .unfound .ensures ∙ rw (found u .nowhere (c .before .if1 .taken), u .before .place-of .ensures)
 
-mul-z : tie.Need-mul-z
-mul-z c = omega (arith, c .before .used .ensures, min-le-right (c .before .before .before .args .count) 200)
+mul-space : tie.Need-mul-space
+mul-space c = omega (arith, c .before .used .ensures, min-le-right (c .before .before .before .args .count) 200)
 
-array-copy-out-z : tie.Need-array-copy-out-z
-array-copy-out-z c = omega (arith, c .before .used .ensures, min-le-right (c .before .before .before .args .count) 200)
+array-copy-out-space : tie.Need-array-copy-out-space
+array-copy-out-space c = omega (arith, c .before .used .ensures, min-le-right (c .before .before .before .args .count) 200)
 
 may-take-requires : tie.Need-may-take-requires
 may-take-requires c κs = search needs
+
+marked-twice-requires : tie.Need-marked-twice-requires
+marked-twice-requires c κs = search needs
 
 returns-2 : tie.Need-returns-2
 unfolding markNumber markRuling
 returns-2 c =
     let low = c .before .before .before in
     let u = low .before in
-    rw (found u .there (low .if1 .left), fails (c .before .may-take .ensures) (c .if2 .taken), u .before .place-of .ensures)
-
-marked-twice-requires : tie.Need-marked-twice-requires
-marked-twice-requires c κs = search needs
+    rw (found u .there (low .if1 .left), fails (c .before .may-take .ensures) (c .if2 .taken)) (ap (λ (p : ℕ). record { number = 6; place = p; space = getD (u .before .before .args .t1) (u .before .place-of .result) emptySpace }) (u .before .place-of .ensures))
 
 returns-3 : tie.Need-returns-3
 unfolding markNumber markRuling
@@ -53,7 +58,9 @@ returns-3 c =
     let t = c .before .before in
     let low = t .before .before .before in
     let u = low .before in
-    rw (found u .there (low .if1 .left), holds (t .before .may-take .ensures) (t .if2 .left), sym (c .before .marked-twice .ensures) ∙ c .if3 .taken, u .before .place-of .ensures)
+    rw
+    (found u .there (low .if1 .left), holds (t .before .may-take .ensures) (t .if2 .left), sym (c .before .marked-twice .ensures) ∙ c .if3 .taken)
+    (ap (λ (p : ℕ). record { number = 8; place = p; space = getD (u .before .before .args .t1) (u .before .place-of .result) emptySpace }) (u .before .place-of .ensures))
 
 returns-4 : tie.Need-returns-4
 unfolding markNumber markRuling
@@ -61,7 +68,9 @@ returns-4 c =
     let t = c .before .before in
     let low = t .before .before .before in
     let u = low .before in
-    rw (found u .there (low .if1 .left), holds (t .before .may-take .ensures) (t .if2 .left), sym (c .before .marked-twice .ensures) ∙ c .if3 .left, u .before .place-of .ensures)
+    rw
+    (found u .there (low .if1 .left), holds (t .before .may-take .ensures) (t .if2 .left), sym (c .before .marked-twice .ensures) ∙ c .if3 .left)
+    (ap (λ (p : ℕ). record { number = 0; place = p; space = getD (u .before .before .args .t1) (u .before .place-of .result) emptySpace }) (u .before .place-of .ensures))
 
 pub mark-ruling-spec : {M : Type 1} → statement M
 mark-ruling-spec =
@@ -69,11 +78,12 @@ mark-ruling-spec =
     (tie.spec
     place-of-requires
     used-requires
+    unfound-requires
     returns
-    mul-z
-    array-copy-out-z
+    mul-space
+    array-copy-out-space
     may-take-requires
-    returns-2
     marked-twice-requires
+    returns-2
     returns-3
     returns-4)

@@ -1,26 +1,21 @@
 -- `Sheet::mark` meets its contract: the tests of 1, 2, 5, 6 and 8, and the mark made and noted.
 use mathlib.Core.Path.{_≡_, sym, ap, ap₂, _∙_}
-use Prim.Native.Nat.{ℕ, _<_}
-use native.Mathlib.Omega.{arith}
+use Prim.Native.Nat.{ℕ}
 use Rattle.measure.proofs.laws.Tests.{holds, fails}
 use borrow.Author.Tests.{not-false, lt-ltb, le-ltb}
 use Rattle.sheet.specs.Sheet.{standing, usable}
 use Rattle.sheet.specs.Changes.{made, noted}
 use Rattle.sheet.specs.declared.changes.Change.{Change}
 use Rattle.sheet.specs.declared.sheet.Sheet.{Sheet}
-use mathlib.Core.List.{[], _∷_}
+use mathlib.Core.List.{_∷_}
 use lib.Dec.{ltb}
-use lib.ListN.{getD}
-use Rattle.spaces.specs.Space.{emptySpace}
-use Rattle.spaces.specs.Row.{find, placeOf}
-use Rattle.standard.specs.Rules.{cannotTake, markedTwice, markTests, markNumber, markRuling}
+use Rattle.standard.specs.Rules.{markTests, markNumber, markRuling}
 use Rattle.standard.specs.declared.rules.Ruling.{Ruling}
 use Rattle.measure.specs.Refusals.{firstOf}
 use mathlib.Core.Bool.{not}
-use Rattle.spaces.specs.declared.space.Space.{Space}
 use Rattle.sheet.specs.Calls.{answered, changed, marking, marked}
 use Rattle.sheet.specs.declared.changes.Change.the-variants.{Marked}
-use Rattle.sheet.proofs.laws.Calls.{applies, passes, not-open, is-open, refused, fitted-open-places, places, open-places, PlaceOf, has-place}
+use Rattle.sheet.proofs.laws.Calls.{applies, passes, not-open, is-open, refused, fitted-open-places, places, open-places}
 use borrow.Author.Needs.{needs}
 use Rattle.sheet.proofs.sheet.Sheet.mark.Statement.{statement}
 use Rattle.sheet.proofs.sheet.Sheet.mark.Tie as tie
@@ -52,28 +47,16 @@ returns-2 c =
 mark-ruling-requires : tie.Need-mark-ruling-requires
 mark-ruling-requires c κs = search needs
 
--- the number is the definition's; where it is 0 the space marked stands, and lies at its place
+-- the number is the definition's, and the change that of the space found
 number-is : (c : tie.After-mark-ruling) → (let s = c .before .before .before .before .before in c .mark-ruling .result .number ≡ firstOf (markTests (standing (s .args .self)) (s .args .id) (s .args .standing)))
 unfolding markNumber markRuling
 number-is c = ap (λ (r : Ruling). r .number) (c .mark-ruling .ensures)
 
-place-is : (c : tie.After-mark-ruling) → (let s = c .before .before .before .before .before in c .mark-ruling .result .place ≡ placeOf (s .args .id) (standing (s .args .self)))
+change-is : (c : tie.After-mark-ruling) → (let s = c .before .before .before .before .before in let r = c .mark-ruling .result in Marked (r .place) (r .space .standing) (s .args .standing) ≡ marking (s .args .self) (s .args .id) (s .args .standing))
 unfolding markRuling
-place-is c = ap (λ (r : Ruling). r .place) (c .mark-ruling .ensures)
-
-there : (c : tie.After-mark-ruling) → c .mark-ruling .result .number ≡ 0 → (let s = c .before .before .before .before .before in PlaceOf (s .args .self) (s .args .id))
-there c none =
-    let u = c .before .before .before in
-    let s = u .before .before in
-    let xs = standing (s .args .self) in
-    has-place (s .args .self) (s .args .id) ((cannotTake (find (s .args .id) xs) (s .args .standing), 6) ∷ (markedTwice xs (s .args .id) (s .args .standing), 8) ∷ [])
-    (places (u .before .usable .ensures) (not-false _ (u .if1 .left)))
-    (sym (number-is c) ∙ none)
-
-inside : (c : tie.After-mark-ruling) → c .mark-ruling .result .number ≡ 0 → c .mark-ruling .result .place < 200
-inside c none =
-    let u = c .before .before .before in
-    omega (arith, place-is c, there c none .taken, places (u .before .usable .ensures) (not-false _ (u .if1 .left)) .count)
+change-is c =
+    let st = c .before .before .before .before .before .args .standing in
+    ap (λ (r : Ruling). Marked (r .place) (r .space .standing) st) (c .mark-ruling .ensures)
 
 -- the sheet is open and the standing in its range: the number is the ruling's
 ruled : (c : tie.After-mark-ruling) → (let s = c .before .before .before .before .before in firstOf ((not (usable (s .args .self)), 1) ∷ (ltb 3 (s .args .standing), 2) ∷ markTests (standing (s .args .self)) (s .args .id) (s .args .standing)) ≡ c .mark-ruling .result .number)
@@ -98,12 +81,6 @@ returns-3 c =
     refused (n .mark-ruling .result .number) sh next (c .if3 .taken)
     ∙ ap (λ (k : ℕ). answered k sh next) (sym (ruled n))
 
-mul-before : tie.Need-mul-before
-mul-before c = omega (arith, inside (c .before .before) (c .if3 .left))
-
-array-copy-out-before : tie.Need-array-copy-out-before
-array-copy-out-before c = inside (c .before .before) (c .if3 .left)
-
 made-requires : tie.Need-made-requires
 made-requires c κs =
     let u = c .before .before .before .before .before .before in
@@ -123,9 +100,7 @@ returns-4 c =
     let sh = s .args .self in
     let st = s .args .standing in
     let next = changed (marking sh (s .args .id) st) sh in
-    let place = n .mark-ruling .result .place in
-    let ch : Marked place (getD (sh .spaces) place emptySpace .standing) st ≡ marking sh (s .args .id) st =
-    ap (λ (k : ℕ). Marked k (getD (sh .spaces) k emptySpace .standing) st) (place-is n) ∙ ap (λ (x : Space). Marked (placeOf (s .args .id) (standing sh)) (x .standing) st) (there n none .there) in
+    let ch = change-is n in
     let after = c .noted .ensures ∙ ap₂ noted ch (c .before .made .ensures ∙ ap (λ (x : Change). made x sh) ch) in
     ap (λ (x : Sheet). record { number = 0; sheet = x }) after ∙ ap (λ (k : ℕ). answered k sh next) (sym (ruled n ∙ none))
 
@@ -138,8 +113,6 @@ mark-spec =
     returns-2
     mark-ruling-requires
     returns-3
-    mul-before
-    array-copy-out-before
     made-requires
     noted-requires
     returns-4)
