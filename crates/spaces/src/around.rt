@@ -18,43 +18,66 @@ ghost use mathlib.Core.Path.{_≡_};
 ghost use mathlib.Core.Bool.{cond};
 ghost use Prim.Native.Nat.{_≤_};
 ghost use lib.ListN.{take};
-ghost use Rattle.spaces.specs.Around.{enclosingPlace, besideOf, aroundOf, nothingAround, eachAround};
+ghost use Rattle.spaces.specs.Around.{besideOf, aroundOf, nothingAround, eachAround};
 ghost use Rattle.spaces.specs.Handed.{Charted};
 
 pub struct Around {
-    // Its id stands already.
-    pub taken: bool,
     // The place of its enclosing space, from 0; as many as stand where there is none.
     pub home: usize,
-    // How many spaces are above it, and whether all are plain.
+    // How many spaces are above it.
     pub levels: usize,
-    pub plain: bool,
     // The tonnages of the rooms directly inside its enclosing space; where it has none, the lengths of all U.
     pub beside: u64,
+    // Its id stands already.
+    pub taken: bool,
+    // All above it are plain.
+    pub plain: bool,
 }
 
 fn nothing_around() -> Around
     ensures { λ r. ⌜ r ≡ nothingAround ⌝ }
 {
     Around {
-        taken: false,
         home: 0,
         levels: 0,
-        plain: true,
         beside: 0,
+        taken: false,
+        plain: true,
     }
 }
 
-// The place of the enclosing space, from 0; as many as stand where there is none.
-fn enclosing_place(spaces: [Space; 200], count: usize, x: Space) -> usize
-    ensures { λ r. ⌜ r ≡ enclosingPlace (take count spaces) x ⌝ }
+// What is around a space among those that stand. All the spaces are handed on only where there is something to look for.
+pub fn around_space(spaces: [Space; 200], count: usize, x: Space) -> Around
+    ensures { λ r. ⌜ r ≡ aroundOf (take count spaces) x ⌝ }
 {
     if x.kind == ROOM {
-        return place_of(spaces, count, x.within);
+        return around_room(spaces, count, x);
     }
-    used(count)
+    Around {
+        home: used(count),
+        levels: 0,
+        beside: sum(spaces, count, Amount::Lengths),
+        taken: stands(spaces, count, x.id),
+        plain: true,
+    }
 }
 
+fn around_room(spaces: [Space; 200], count: usize, x: Space) -> Around
+    requires { ⌜ x .kind ≡ 5 ⌝ }
+    ensures { λ r. ⌜ r ≡ aroundOf (take count spaces) x ⌝ }
+{
+    let home = place_of(spaces, count, x.within);
+    let up = all_above(spaces, count, x);
+    Around {
+        home,
+        levels: up.levels,
+        beside: beside(spaces, count, x, home),
+        taken: stands(spaces, count, x.id),
+        plain: up.plain,
+    }
+}
+
+// What a room would be added to.
 fn beside(spaces: [Space; 200], count: usize, x: Space, home: usize) -> u64
     ensures { λ r. ⌜ r ≡ besideOf home (take count spaces) x ⌝ }
 {
@@ -62,21 +85,6 @@ fn beside(spaces: [Space; 200], count: usize, x: Space, home: usize) -> u64
         return sum(spaces, count, Amount::Inside(x.within));
     }
     sum(spaces, count, Amount::Lengths)
-}
-
-// What is around a space among those that stand.
-pub fn around_space(spaces: [Space; 200], count: usize, x: Space) -> Around
-    ensures { λ r. ⌜ r ≡ aroundOf (take count spaces) x ⌝ }
-{
-    let home = enclosing_place(spaces, count, x);
-    let up = all_above(spaces, count, x);
-    Around {
-        taken: stands(spaces, count, x.id),
-        home,
-        levels: up.levels,
-        plain: up.plain,
-        beside: beside(spaces, count, x, home),
-    }
 }
 
 // What a record would be added to, by what is known of those before it.

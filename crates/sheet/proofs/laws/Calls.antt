@@ -9,7 +9,7 @@ use lib.ListN.{length}
 use Rattle.measure.specs.Refusals.{firstOf}
 use Rattle.spaces.specs.declared.space.Space.{Space}
 use Rattle.spaces.proofs.laws.Cases.{by-test}
-use Rattle.sheet.specs.Sheet.{standing, usable}
+use Rattle.sheet.specs.Sheet.{usable}
 use Rattle.sheet.specs.Changes.{withStanding, fitted}
 use Rattle.sheet.specs.Calls.{answered}
 use Rattle.sheet.specs.Handed.{Places, OpenPlaces, Judged}
