@@ -1,4 +1,5 @@
--- The day's file as document 01 has it ("The file", and rows 13 to 18 of "Numbers of refusal"). Read these files from top to bottom.
+-- The day's file as document 01 has it ("The file", and rows 13 to 18 of "Numbers of refusal"). Read these files from top to bottom;
+-- Handed is what the functions inside the crate hand one another.
 pub mod Numbers
 pub mod Fields
 pub mod Record

@@ -1,5 +1,6 @@
 -- The sheet, its changes and its report, as document 01 has them ("The sheet and its changes", "Gross and net", rows 1 to 14 of
--- "Numbers of refusal"). Read these files from top to bottom.
+-- "Numbers of refusal"). Read these files from top to bottom; Handed is what the functions inside the
+-- crate ask of a sheet and hand one another.
 pub mod Sheet
 pub mod Changes
 pub mod Calls

@@ -1,6 +1,6 @@
 -- What is around a space, among others in order of entry: all that an entry's rules ask of them.
 use Prim.Native.Nat.{ℕ, _-_}
-use mathlib.Core.Bool.{true, false, cond}
+use mathlib.Core.Bool.{false, cond}
 use mathlib.Core.List.{List, [], _∷_, _++_}
 use lib.Dec.{ltb}
 use lib.ListN.{length, replicate}
@@ -34,9 +34,9 @@ abbrev pub aroundFrom : List Space → List Space → List Around
 aroundFrom xs [] = []
 aroundFrom xs (x ∷ rest) = aroundOf xs x ∷ aroundFrom (xs ++ (x ∷ [])) rest
 
--- and nothing around a free place
-abbrev pub nothingAround : Around
-nothingAround = record { taken = false; home = 0; levels = 0; plain = true; beside = 0 }
+-- a blank for each free place
+abbrev pub blankAround : Around
+blankAround = record { taken = false; home = 0; levels = 0; plain = false; beside = 0 }
 
 unfoldable pub eachAround : List Space → List Around
-eachAround xs = aroundFrom [] xs ++ replicate (200 - length xs) nothingAround
+eachAround xs = aroundFrom [] xs ++ replicate (200 - length xs) blankAround

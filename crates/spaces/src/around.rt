@@ -18,66 +18,44 @@ ghost use mathlib.Core.Path.{_≡_};
 ghost use mathlib.Core.Bool.{cond};
 ghost use Prim.Native.Nat.{_≤_};
 ghost use lib.ListN.{take};
-ghost use Rattle.spaces.specs.Around.{besideOf, aroundOf, nothingAround, eachAround};
+ghost use Rattle.spaces.specs.Around.{enclosingPlace, besideOf, aroundOf, blankAround, eachAround};
 ghost use Rattle.spaces.specs.Handed.{Charted};
 
 pub struct Around {
-    // The place of its enclosing space, from 0; as many as stand where there is none.
-    pub home: usize,
-    // How many spaces are above it.
-    pub levels: usize,
-    // The tonnages of the rooms directly inside its enclosing space; where it has none, the lengths of all U.
-    pub beside: u64,
     // Its id stands already.
     pub taken: bool,
-    // All above it are plain.
+    // The place of its enclosing space, from 0; as many as stand where there is none.
+    pub home: usize,
+    // How many spaces are above it, and whether all are plain.
+    pub levels: usize,
     pub plain: bool,
+    // The tonnages of the rooms directly inside its enclosing space; where it has none, the lengths of all U.
+    pub beside: u64,
 }
 
-fn nothing_around() -> Around
-    ensures { λ r. ⌜ r ≡ nothingAround ⌝ }
+// What is told of a free place.
+fn blank_around() -> Around
+    ensures { λ r. ⌜ r ≡ blankAround ⌝ }
 {
     Around {
+        taken: false,
         home: 0,
         levels: 0,
+        plain: false,
         beside: 0,
-        taken: false,
-        plain: true,
     }
 }
 
-// What is around a space among those that stand. All the spaces are handed on only where there is something to look for.
-pub fn around_space(spaces: [Space; 200], count: usize, x: Space) -> Around
-    ensures { λ r. ⌜ r ≡ aroundOf (take count spaces) x ⌝ }
+// The place of the enclosing space, from 0; as many as stand where there is none.
+fn enclosing_place(spaces: [Space; 200], count: usize, x: Space) -> usize
+    ensures { λ r. ⌜ r ≡ enclosingPlace (take count spaces) x ⌝ }
 {
     if x.kind == ROOM {
-        return around_room(spaces, count, x);
+        return place_of(spaces, count, x.within);
     }
-    Around {
-        home: used(count),
-        levels: 0,
-        beside: sum(spaces, count, Amount::Lengths),
-        taken: stands(spaces, count, x.id),
-        plain: true,
-    }
+    used(count)
 }
 
-fn around_room(spaces: [Space; 200], count: usize, x: Space) -> Around
-    requires { ⌜ x .kind ≡ 5 ⌝ }
-    ensures { λ r. ⌜ r ≡ aroundOf (take count spaces) x ⌝ }
-{
-    let home = place_of(spaces, count, x.within);
-    let up = all_above(spaces, count, x);
-    Around {
-        home,
-        levels: up.levels,
-        beside: beside(spaces, count, x, home),
-        taken: stands(spaces, count, x.id),
-        plain: up.plain,
-    }
-}
-
-// What a room would be added to.
 fn beside(spaces: [Space; 200], count: usize, x: Space, home: usize) -> u64
     ensures { λ r. ⌜ r ≡ besideOf home (take count spaces) x ⌝ }
 {
@@ -85,6 +63,21 @@ fn beside(spaces: [Space; 200], count: usize, x: Space, home: usize) -> u64
         return sum(spaces, count, Amount::Inside(x.within));
     }
     sum(spaces, count, Amount::Lengths)
+}
+
+// What is around a space among those that stand.
+pub fn around_space(spaces: [Space; 200], count: usize, x: Space) -> Around
+    ensures { λ r. ⌜ r ≡ aroundOf (take count spaces) x ⌝ }
+{
+    let home = enclosing_place(spaces, count, x);
+    let up = all_above(spaces, count, x);
+    Around {
+        taken: stands(spaces, count, x.id),
+        home,
+        levels: up.levels,
+        plain: up.plain,
+        beside: beside(spaces, count, x, home),
+    }
 }
 
 // What a record would be added to, by what is known of those before it.
@@ -97,7 +90,7 @@ fn added_to(enclosed: bool, inside: u64, lengths: u64) -> u64
     lengths
 }
 
-// What is around each of the records among those before it; nothing where there is none. It is known by places and running sums, so
+// What is around each of the records among those before it; a blank for each free place. It is known by places and running sums, so
 // that no search and no sum is made twice.
 pub fn around_each(records: [Space; 200], count: usize) -> [Around; 200]
     ensures { λ r. ⌜ r ≡ eachAround (take count records) ⌝ }
@@ -127,7 +120,7 @@ fn around_places(
 {
     let mut inside = [0u64; 201];
     let mut lengths: u64 = 0;
-    let none = nothing_around();
+    let none = blank_around();
     let mut all = [none; 200];
     let mut i = 0;
     while i < n {

@@ -12,7 +12,7 @@ use lib.Seq.{length-take-le, getD-set-same, getD-set-other, set-at, append-snoc,
 use Rattle.spaces.specs.Space.{emptySpace, isRoom}
 use Rattle.spaces.specs.Row.{placeOf, stands, amountOf, sumOf}
 use Rattle.spaces.specs.Enclosure.{above, walked}
-use Rattle.spaces.specs.Around.{enclosingPlace, besideOf, aroundOf, aroundFrom, nothingAround, eachAround}
+use Rattle.spaces.specs.Around.{enclosingPlace, besideOf, aroundOf, aroundFrom, blankAround, eachAround}
 use Rattle.spaces.specs.Handed.{climbed, Charted}
 use Rattle.spaces.specs.declared.space.Space.{Space}
 use Rattle.spaces.specs.declared.sums.Amount.{Amount}
@@ -187,17 +187,17 @@ around-length before (x ∷ xs) = ap suc (around-length (before ++ (x ∷ [])) x
 
 -- of the first i, and nothing around the other places
 abbrev pub aroundFirst : List Space → ℕ → List Around
-aroundFirst xs i = aroundFrom [] (take i xs) ++ replicate (200 - i) nothingAround
+aroundFirst xs i = aroundFrom [] (take i xs) ++ replicate (200 - i) blankAround
 
 pub around-more : (xs : List Space) (i : ℕ) → i < length xs → length xs ≤ 200
     → set (aroundFirst xs i) i (aroundOf (take i xs) (getD xs i emptySpace)) ≡ aroundFirst xs (i + 1)
 around-more xs i h most =
     let a = aroundOf (take i xs) (getD xs i emptySpace) in
-    let left = replicate (200 - (i + 1)) nothingAround in
-    let one : replicate (200 - i) nothingAround ≡ nothingAround ∷ left = ap (λ (k : ℕ). replicate k nothingAround) (let k : 200 - i ≡ suc (200 - (i + 1)) = omega arith in k) in
+    let left = replicate (200 - (i + 1)) blankAround in
+    let one : replicate (200 - i) blankAround ≡ blankAround ∷ left = ap (λ (k : ℕ). replicate k blankAround) (let k : 200 - i ≡ suc (200 - (i + 1)) = omega arith in k) in
     let met : length (aroundFrom [] (take i xs)) ≡ i = around-length [] (take i xs) ∙ length-take-le i xs (omega arith) in
     ap (λ (l : List Around). set (aroundFrom [] (take i xs) ++ l) i a) one
-    ∙ set-at (aroundFrom [] (take i xs)) nothingAround left a i met
+    ∙ set-at (aroundFrom [] (take i xs)) blankAround left a i met
     ∙ sym (append-snoc (aroundFrom [] (take i xs)) a left)
     ∙ ap (λ (l : List Around). l ++ left) (sym (around-snoc [] (take i xs) (getD xs i emptySpace)) ∙ ap (aroundFrom []) (one-passed xs i h))
 
@@ -205,7 +205,7 @@ around-more xs i h most =
 pub around-all : (xs : List Space) (i : ℕ) → i ≡ length xs → aroundFirst xs i ≡ eachAround xs
 unfolding eachAround
 around-all xs i e =
-    ap (aroundFirst xs) e ∙ ap (λ (l : List Space). aroundFrom [] l ++ replicate (200 - length xs) nothingAround) (take-all (length xs) xs (omega arith))
+    ap (aroundFirst xs) e ∙ ap (λ (l : List Space). aroundFrom [] l ++ replicate (200 - length xs) blankAround) (take-all (length xs) xs (omega arith))
 
 -- what is told of the record at a place
 around-from-at : (before xs : List Space) (i : ℕ) → i < length xs → (none : Around) → getD (aroundFrom before xs) i none ≡ aroundOf (before ++ take i xs) (getD xs i emptySpace)
@@ -218,4 +218,4 @@ around-from-at before (x ∷ xs) (suc i) h none =
 pub around-at : (xs : List Space) (i : ℕ) → i < length xs → (none : Around) → getD (eachAround xs) i none ≡ aroundOf (take i xs) (getD xs i emptySpace)
 unfolding eachAround
 around-at xs i h none =
-    List·getD-append (aroundFrom [] xs) (replicate (200 - length xs) nothingAround) none i (omega (arith, around-length [] xs)) ∙ around-from-at [] xs i h none
+    List·getD-append (aroundFrom [] xs) (replicate (200 - length xs) blankAround) none i (omega (arith, around-length [] xs)) ∙ around-from-at [] xs i h none

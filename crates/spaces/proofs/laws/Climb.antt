@@ -148,7 +148,7 @@ walked-nowhere (suc left) n ids withins kinds standings kind within h =
     (λ t. rw (t, le-ltb (placeIn within (take n ids)) n (h (eqb-true kind 5 t))))
     (λ f. rw f)
 
-pub walked-on : (left n : ℕ) (ids withins kinds standings : List ℕ) (kind within : ℕ) → 0 < left → kind ≡ 5 → placeIn within (take n ids) < n
+walked-on : (left n : ℕ) (ids withins kinds standings : List ℕ) (kind within : ℕ) → 0 < left → kind ≡ 5 → placeIn within (take n ids) < n
     → let at = placeIn within (take n ids) in
     walkedBy left n ids withins kinds standings kind within
     ≡ pastOf (getD standings at 0) (walkedBy (left - 1) n ids withins kinds standings (getD kinds at 0) (getD withins at 0))
@@ -160,13 +160,29 @@ walked-on (suc left) n ids withins kinds standings kind within h room there =
     rw (eq-eqb kind 5 room, lt-ltb at n there)
     (ap (λ (k : ℕ). pastOf (getD standings at 0) (walkedBy k n ids withins kinds standings (getD kinds at 0) (getD withins at 0))) l)
 
-pub walked-short : (left n : ℕ) (ids withins kinds standings : List ℕ) (kind within : ℕ) → walkedBy left n ids withins kinds standings kind within .levels ≤ left
+walked-short : (left n : ℕ) (ids withins kinds standings : List ℕ) (kind within : ℕ) → walkedBy left n ids withins kinds standings kind within .levels ≤ left
 unfolding walkedBy
 walked-short zero n ids withins kinds standings kind within = omega arith
 walked-short (suc left) n ids withins kinds standings kind within =
     let at = placeIn within (take n ids) in
     let further = walked-short left n ids withins kinds standings (getD kinds at 0) (getD withins at 0) in
     by-test (eqb kind 5 && ltb at n) (λ t. rw t (omega arith)) (λ f. rw f (omega arith))
+
+-- as the code has it: the levels left, and a step past the place found
+module _ (left n : ℕ) (ids withins kinds standings : List ℕ) where
+  pub levels-walked : (kind within : ℕ) (w : Above) → w ≡ walkedBy left n ids withins kinds standings kind within → w .levels ≤ left
+  levels-walked kind within w e =
+      omega (arith, ap (λ (v : Above). v .levels) e, walked-short left n ids withins kinds standings kind within)
+
+  pub walked-past-place : (kind within at : ℕ) → 0 < left → kind ≡ 5 → at ≡ placeIn within (take n ids) → at < n → (further r : Above)
+      → further ≡ walkedBy (left - 1) n ids withins kinds standings (getD kinds at 0) (getD withins at 0)
+      → r ≡ pastOf (getD standings at 0) further
+      → r ≡ walkedBy left n ids withins kinds standings kind within
+  walked-past-place kind within at h room found low further r e past =
+      past
+      ∙ ap (pastOf (getD standings at 0)) e
+      ∙ ap (λ (p : ℕ). pastOf (getD standings p 0) (walkedBy (left - 1) n ids withins kinds standings (getD kinds p 0) (getD withins p 0))) found
+      ∙ sym (walked-on left n ids withins kinds standings kind within h room (omega arith))
 
 -- it meets what the walk meets
 module _ (spaces : List Space) (n : ℕ) (few : n ≤ length spaces) where

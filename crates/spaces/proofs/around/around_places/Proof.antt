@@ -22,8 +22,8 @@ Inv-loop n homes owns standings records inside₀ lengths₀ all₀ i₀ inside 
 abbrev μ-loop : tie.MeasureT-loop
 μ-loop n homes owns standings records inside₀ lengths₀ all₀ i₀ inside lengths all i = n - i
 
-nothing-around-requires : tie.Need-nothing-around-requires Inv-loop μ-loop
-nothing-around-requires c κs = tt
+blank-around-requires : tie.Need-blank-around-requires Inv-loop μ-loop
+blank-around-requires c κs = tt
 
 -- as many as n
 size-is : (s : tie.Start Inv-loop μ-loop) → length (take (s .args .n) (s .args .t1)) ≡ s .args .n
@@ -34,7 +34,7 @@ size-is s =
 loop-holds : tie.Need-loop-holds Inv-loop μ-loop
 loop-holds c =
     let s = c .before in
-    (omega arith, rw (c .nothing-around .ensures), nothing-summed (take (s .args .n) (s .args .t1)) (omega (arith, size-is s)))
+    (omega arith, rw (c .blank-around .ensures), nothing-summed (take (s .args .n) (s .args .t1)) (omega (arith, size-is s)))
 
 mul-x : tie.Need-mul-x Inv-loop μ-loop
 mul-x c = omega arith
@@ -149,7 +149,7 @@ around-places-spec =
     (tie.spec
     Inv-loop
     μ-loop
-    nothing-around-requires
+    blank-around-requires
     loop-holds
     mul-x
     array-copy-out-x

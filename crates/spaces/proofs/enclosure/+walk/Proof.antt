@@ -1,11 +1,10 @@
 -- `enclosure::walk` meets its contract: the levels left fall with each step, and a step is the definition's first one.
 use Prim.Native.Nat.{ℕ, _-_, _<_}
-use mathlib.Core.Path.{sym, ap, _∙_}
+use mathlib.Core.Path.{sym, _∙_}
 use native.Mathlib.Omega.{arith}
 use lib.ListN.{getD}
-use Rattle.spaces.specs.Handed.{pastOf, walkedBy}
-use Rattle.spaces.specs.declared.enclosure.Above.{Above}
-use Rattle.spaces.proofs.laws.Climb.{walked-nowhere, walked-on, walked-short}
+use Rattle.spaces.specs.Handed.{walkedBy}
+use Rattle.spaces.proofs.laws.Climb.{walked-nowhere, levels-walked, walked-past-place}
 use borrow.Author.Needs.{needs}
 use borrow.Fn.Kinds.{In}
 use borrow.Fn.PlainCycle.{Measures, is, falls, and}
@@ -89,18 +88,17 @@ module _ (t : ℕ) where
       let a = s .args in
       let p = c .before .before .before .before .before in
       let at = p .place-in .result in
-      omega (arith, s .pre .1, ap (λ (w : Above). w .levels) (c .before .walk .ensures), walked-short (a .left - 1) (a .n) (a .ids .now) (a .withins .now) (a .kinds .now) (a .standings .now) (getD (a .kinds .now) at 0) (getD (a .withins .now) at 0))
+      let further = c .before .walk in
+      omega (arith, s .pre .1, levels-walked (a .left - 1) (a .n) (a .ids .now) (a .withins .now) (a .kinds .now) (a .standings .now) (getD (a .kinds .now) at 0) (getD (a .withins .now) at 0) (further .result) (further .ensures))
 
   returns-4 : lts.Need-returns-4 (told t) (now-left t) reads.Post
   returns-4 c =
       let w = c .before .before in
       let p = w .before .before .before .before in
       let a = p .before .before .before .before .args in
-      let by : ℕ → Above = λ at. pastOf (getD (a .standings .now) at 0) (walkedBy (a .left - 1) (a .n) (a .ids .now) (a .withins .now) (a .kinds .now) (a .standings .now) (getD (a .kinds .now) at 0) (getD (a .withins .now) at 0)) in
-      c .past .ensures
-      ∙ ap (pastOf (getD (a .standings .now) (p .place-in .result) 0)) (w .walk .ensures)
-      ∙ ap by (p .place-in .ensures)
-      ∙ sym (walked-on (a .left) (a .n) (a .ids .now) (a .withins .now) (a .kinds .now) (a .standings .now) (a .kind) (a .within) (omega arith) (p .before .before .if2 .left) (omega (arith, p .place-in .ensures, w .before .before .before .if3 .left)))
+      walked-past-place (a .left) (a .n) (a .ids .now) (a .withins .now) (a .kinds .now) (a .standings .now) (a .kind) (a .within) (p .place-in .result)
+      (omega arith) (p .before .before .if2 .left) (p .place-in .ensures) (omega (arith, w .before .before .before .if3 .left))
+      (w .walk .result) (c .past .result) (w .walk .ensures) (c .past .ensures)
 
 pub +walk-spec : {M : Type 1} → statement M
 +walk-spec =

@@ -9,6 +9,7 @@ use native.Mathlib.Omega.{arith}
 use lib.ListN.{length, take, drop, getD}
 use lib.Seq.{getD-take, take-take, length-take-le}
 use Rattle.spaces.specs.Space.{emptySpace}
+use Rattle.spaces.specs.Around.{blankAround}
 use Rattle.spaces.specs.declared.around.Around.{Around}
 use Rattle.spaces.proofs.laws.Row.{used-is}
 use Rattle.spaces.proofs.laws.Around.{around-at}
@@ -59,15 +60,11 @@ array-copy-out-around c = omega arith
 lesser-requires : tie.Need-lesser-requires Inv-loop μ-loop
 lesser-requires c κs = tt
 
--- what a row of what is around has past its end
-abbrev unread : Around
-unread = record { taken = false; home = 0; levels = 0; plain = false; beside = 0 }
-
 -- the place of the enclosing space, or the record's own, is one of the 200
 low-place : (c : tie.After-lesser Inv-loop μ-loop) → c .lesser .result < 200
 low-place c =
     let l = c .before .before .before .before in
-    omega (arith, c .lesser .ensures, min-le-right (getD (l .before .around-each .result) (l .loop .i) unread .home) (l .loop .i), all-stand (l .before .before) .1)
+    omega (arith, c .lesser .ensures, min-le-right (getD (l .before .around-each .result) (l .loop .i) blankAround .home) (l .loop .i), all-stand (l .before .before) .1)
 
 mul-z : tie.Need-mul-z Inv-loop μ-loop
 mul-z c = omega (arith, low-place c)
@@ -99,9 +96,9 @@ number-is c =
     let first : take i (a .t1) ≡ take i xs = sym (take-take i (a .count) (a .t1) (omega arith)) in
     let z = c .before .before .before in
     let found = c .before .found-if in
-    let told = getD (each .around-each .result) i unread in
+    let told = getD (each .around-each .result) i blankAround in
     record-number-is (a .tonnage-length) (take i xs) (getD xs i emptySpace) (searched (found .result)) told
-    (ap (λ (row : List Around). getD row i unread) (each .around-each .ensures) ∙ around-at xs i at unread)
+    (ap (λ (row : List Around). getD row i blankAround) (each .around-each .ensures) ∙ around-at xs i at blankAround)
     (found .ensures
     ∙ enclosed-by (a .t1) i (told .home) (z .lesser .result) i (sym (length-take-le i (a .t1) (omega (arith, all .1, below, full)))) (λ low. z .lesser .ensures ∙ min-eq-left (omega arith))
     ∙ ap (enclosedAt (told .home)) first)
