@@ -2,7 +2,6 @@
 -- first.
 use Prim.Native.Nat.{ℕ, _+_, _-_, _≤_, _<_}
 use mathlib.Core.Path.{_≡_, refl, sym, ap, _∙_}
-use mathlib.Core.Bool.{false}
 use mathlib.Core.List.{List, []}
 use native.Mathlib.Nat.{min-le-right, min-le-left, min-eq-left}
 use native.Mathlib.Omega.{arith}
