@@ -21,15 +21,9 @@ const WIDTHS: [u8; 7] = [2, 2, 1, 1, 2, 4, 4];
 
 const LEAST: [u64; 7] = [1, 0, 1, 0, 0, 0, 1];
 
-const GREATEST: [u64; 7] = [
-    GREATEST_ID as u64,
-    65_535,
-    5,
-    3,
-    0,
-    GREATEST_TONNAGE as u64,
-    150_000,
-];
+const MOST_TONS: u64 = GREATEST_TONNAGE as u64;
+
+const GREATEST: [u64; 7] = [GREATEST_ID as u64, 65_535, 5, 3, 0, MOST_TONS, 150_000];
 
 // Writes the records of the first `count` spaces, one after the other, from the front of a part of a buffer.
 pub(crate) fn write_records(buf: &mut [u8], spaces: [Space; 200], count: usize)

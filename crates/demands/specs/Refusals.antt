@@ -24,7 +24,7 @@ use Rattle.dayfile.specs.Reading.{lastTrailer, lastRecords, noSheet, faultIn, s
 use Rattle.dayfile_laws.specs.Faults.{FirstFault, NoFault}
 
 -- ---- the rows of "Numbers of refusal" that each call can be refused with. The conditions of entryTests (4 to 10), withdrawTests
--- (5, 11) and markTests (5, 6, 8) are defined in spaces/specs/Rules, those of 16 and 17 in dayfile/specs/Reading.
+-- (5, 11) and markTests (5, 6, 8) are defined in standard/specs/Rules, those of 16 and 17 in dayfile/specs/Reading.
 
 -- 2: the tonnage length is outside its range
 abbrev pub openTests : Hundredths → List (Bool × ℕ)
