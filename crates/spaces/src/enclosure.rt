@@ -137,7 +137,7 @@ pub(crate) fn climb(
 }
 
 // Whether all the spaces that the one with an id is above are plain: none is below where no room is directly inside. The chains are
-// followed in a row of places, which is lent: the walk hands all the spaces on by value at each level, too dear for 200 of them.
+// followed in a row of places, found once by an index: a walk searches at each level, too dear for 200 of them.
 pub fn plain_below(spaces: [Space; 200], count: usize, id: u16) -> bool
     ensures { λ r. ⌜ r ≡ allPlain (below id (take count spaces)) ⌝ }
 {

@@ -191,7 +191,7 @@ fn encloses_room(spaces: [Space; 200], count: usize, id: u16) -> bool
     0 < sum(spaces, count, Amount::Rooms(id))
 }
 
-// The space with an id is searched for once: the number comes with its place and itself.
+// A withdrawal judged: 5 and 11. The space with the id is searched for once.
 pub fn withdraw_ruling(spaces: [Space; 200], count: usize, id: u16) -> Ruling
     ensures { λ r. ⌜ r ≡ withdrawRuling (take count spaces) id ⌝ }
 {
@@ -211,6 +211,7 @@ pub fn withdraw_ruling(spaces: [Space; 200], count: usize, id: u16) -> Ruling
     }
 }
 
+// 5: none has the id.
 fn unfound(place: usize) -> Ruling
     ensures { λ r. ⌜ r ≡ record { number = 5; place = place; space = emptySpace } ⌝ }
 {
@@ -235,6 +236,7 @@ fn marked_twice(spaces: [Space; 200], count: usize, z: Space, id: u16, standing:
     !plain_below(spaces, count, id)
 }
 
+// A mark judged in the same way: 5, 6 and 8.
 pub fn mark_ruling(spaces: [Space; 200], count: usize, id: u16, standing: u8) -> Ruling
     ensures { λ r. ⌜ r ≡ markRuling (take count spaces) id standing ⌝ }
 {
