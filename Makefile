@@ -39,6 +39,7 @@ run: kit
 # Builds and runs the programs in C and Rust by the README's lines, and compares what they print with the second program's answers.
 examples: kit
 	@tools/x86 ready
+	@rt check survey > target/run.log 2>&1 || { cat target/run.log; exit 1; }
 	@python3 tools/examples.py -v
 
 # Plays N fresh scripts at random on the proved program and on the second one, and stops at the first difference.

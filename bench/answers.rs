@@ -25,6 +25,13 @@ impl Seen {
     }
 }
 
+/// A count, which is never refused.
+impl<S> Answer<S> for usize {
+    fn settle(self, _: &mut S) -> Seen {
+        Seen::accepted([self as u64, 0, 0])
+    }
+}
+
 // What the proved calls answer
 
 impl Answer<proved::Sheet> for proved::Changed {
@@ -45,6 +52,12 @@ impl Answer<proved::Sheet> for proved::Reported {
     fn settle(self, sheet: &mut proved::Sheet) -> Seen {
         *sheet = self.sheet;
         Seen { number: self.number, values: [self.gross, self.net, 0] }
+    }
+}
+
+impl Answer<proved::Sheet> for proved::LaidOut {
+    fn settle(self, _: &mut proved::Sheet) -> Seen {
+        Seen { number: self.number, values: [self.parts as u64, self.sections as u64, 0] }
     }
 }
 
@@ -86,6 +99,12 @@ impl Answer<plain::Sheet> for plain::Counts {
 impl Answer<plain::Sheet> for Result<plain::Report, plain::Refusal> {
     fn settle(self, _: &mut plain::Sheet) -> Seen {
         self.map_or_else(Seen::refused, |report| Seen::accepted([report.gross, report.net, 0]))
+    }
+}
+
+impl Answer<plain::Sheet> for Result<plain::LaidOut, plain::Refusal> {
+    fn settle(self, _: &mut plain::Sheet) -> Seen {
+        self.map_or_else(Seen::refused, |laid_out| Seen::accepted([laid_out.parts as u64, laid_out.sections as u64, 0]))
     }
 }
 

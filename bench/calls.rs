@@ -1,6 +1,6 @@
 //! The calls, each three times: proved, in plain Rust by value, and in plain Rust in place.
 use crate::desk::{on_each, Call};
-use crate::fummidrake::{self as proved, Entry};
+use crate::fummidrake::{self as proved, Entry, Tank};
 use crate::plain::{self, by_value};
 use std::hint::black_box;
 use std::rc::Rc;
@@ -25,6 +25,40 @@ pub fn enter(entry: Entry, heights: Vec<u32>, breadths: Vec<u32>) -> Box<dyn Cal
         move |sheet, _| sheet.clone().enter(entry, &first.0, &first.1),
         move |sheet, _| by_value::enter(*sheet, same, &second.0, &second.1),
         move |sheet, _| sheet.enter(same, &third.0, &third.1),
+    )
+}
+
+pub fn enter_tank(tank: Tank, depths: Vec<u32>, breadths: Vec<u32>) -> Box<dyn Call> {
+    let Tank { id, within, standing, length, fore } = tank;
+    let name = format!("tank {id} {within} {standing} {length} {fore} {depths:?} {breadths:?}");
+    let same = plain::Tank { id, within, standing, length, fore };
+    let sections = Rc::new((depths, breadths));
+    let [first, second, third] = [(); 3].map(|()| sections.clone());
+    on_each(
+        name,
+        move |sheet, _| sheet.clone().enter_tank(tank, &first.0, &first.1),
+        move |sheet, _| by_value::enter_tank(*sheet, same, &second.0, &second.1),
+        move |sheet, _| sheet.enter_tank(same, &third.0, &third.1),
+    )
+}
+
+/// Asks where a tank is measured: of a tonnage length, a U's length, and the tank's length and fore end.
+pub fn lay_out([whole, under_deck, length, fore]: [u32; 4]) -> Box<dyn Call> {
+    on_each(
+        format!("lay out {whole} {under_deck} {length} {fore}"),
+        move |_, _| proved::lay_out(whole, under_deck, length, fore),
+        move |_, _| plain::lay_out(whole, under_deck, length, fore),
+        move |_, _| plain::lay_out(whole, under_deck, length, fore),
+    )
+}
+
+/// Asks, of the same, for the under-deck station of a section.
+pub fn section_station([whole, under_deck, length, fore]: [u32; 4], section: usize) -> Box<dyn Call> {
+    on_each(
+        format!("section {section} of {whole} {under_deck} {length} {fore}"),
+        move |_, _| proved::section_station(whole, under_deck, length, fore, section),
+        move |_, _| plain::section_station(whole, under_deck, length, fore, section),
+        move |_, _| plain::section_station(whole, under_deck, length, fore, section),
     )
 }
 

@@ -1,7 +1,7 @@
 //! What is timed, and on which sheets.
 use crate::calls;
 use crate::desk::{Call, Desks};
-use crate::fummidrake::{breadths_at_station, stations, Entry};
+use crate::fummidrake::{breadths_at_station, lay_out, stations, Entry, Tank};
 use crate::timing::Side;
 
 /// A call, and the desks on which it is made.
@@ -62,6 +62,17 @@ fn divided(id: u16, kind: u8, tonnage_length: u32, length: u32, height: u32, bre
     calls::enter(Entry { id, kind, length, ..Entry::default() }, heights, breadths)
 }
 
+/// Enters a tank in the U that is as deep and as broad at every section: 16 parts, the most, and two sections at three of its stations.
+/// In thirds of the U's interval it is 44.8 long, from 2.2 on, so that its stations 1, 6 and 16, from 0, lie at 5, 19 and 47.
+fn tank(id: u16) -> Box<dyn Call> {
+    let tank = Tank { id, within: 2, standing: PLAIN, length: 28_000, fore: 1_375 };
+    let asked = lay_out(LENGTH, LENGTH, tank.length, tank.fore);
+    assert_eq!((asked.parts, asked.sections), (16, 17 + 3));
+    let depths = vec![1_500; asked.sections];
+    let breadths = vec![400; depths.len() * breadths_at_station(UNDER_DECK, 1_700)];
+    calls::enter_tank(tank, depths, breadths)
+}
+
 fn undivided(entry: Entry, height: u32, breadth: u32) -> Box<dyn Call> {
     calls::enter(entry, vec![height], vec![breadth])
 }
@@ -106,6 +117,16 @@ fn enter_hatchway(count: u16) -> Result<Case, String> {
 
 fn enter_last(count: u16) -> Result<Case, String> {
     Case::on(format!("enter the last of {count}, at level 8"), count - 1, space(count))
+}
+
+/// The U, where it was withdrawn.
+fn enter_under_deck() -> Result<Case, String> {
+    let name = format!("enter a U of 16 parts on {} spaces", PLACES - 1);
+    Case::on(name, PLACES, space(2))?.after(&[calls::withdraw(2)])
+}
+
+fn enter_tank() -> Result<Case, String> {
+    Case::on(format!("enter a tank of 16 parts on {} spaces", PLACES - 1), PLACES - 1, tank(PLACES))
 }
 
 fn mark_plain(id: u16) -> Result<Case, String> {
@@ -177,6 +198,8 @@ pub fn cases() -> Result<Vec<Case>, String> {
         enter_hatchway(100),
         enter_hatchway(PLACES - 1),
         enter_last(PLACES),
+        enter_under_deck(),
+        enter_tank(),
         mark_plain(1),
         mark_plain(PLACES),
         mark_exempt(1, PLACES),

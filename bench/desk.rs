@@ -65,8 +65,8 @@ where
 trait Sheet {
     fn outline(&self) -> Outline;
 
-    /// Of the space at a place: id, enclosing id, kind, standing, tonnage and length.
-    fn space(&self, place: usize) -> [u32; 6];
+    /// Of the space at a place: id, enclosing id, kind, standing, m, tonnage and length.
+    fn space(&self, place: usize) -> [u32; 7];
 }
 
 /// What can be asked of a sheet, beside its spaces.
@@ -155,9 +155,9 @@ impl Sheet for proved::Sheet {
         Outline { open, length, standing, undoable, redoable }
     }
 
-    fn space(&self, place: usize) -> [u32; 6] {
-        let proved::Space { id, within, kind, standing, tonnage, length } = self.space_at(place);
-        [id.into(), within.into(), kind.into(), standing.into(), tonnage, length]
+    fn space(&self, place: usize) -> [u32; 7] {
+        let proved::Space { id, within, kind, standing, m, tonnage, length } = self.space_at(place);
+        [id.into(), within.into(), kind.into(), standing.into(), m.into(), tonnage, length]
     }
 }
 
@@ -168,8 +168,8 @@ impl Sheet for plain::Sheet {
         Outline { open, length, standing, undoable: undoable.into(), redoable: redoable.into() }
     }
 
-    fn space(&self, place: usize) -> [u32; 6] {
-        let plain::Space { id, within, kind, standing, tonnage, length, .. } = self.standing()[place];
-        [id.into(), within.into(), kind as u32, standing as u32, tonnage, length]
+    fn space(&self, place: usize) -> [u32; 7] {
+        let plain::Space { id, within, kind, standing, m, tonnage, length, .. } = self.standing()[place];
+        [id.into(), within.into(), kind as u32, standing as u32, m.into(), tonnage, length]
     }
 }

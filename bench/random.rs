@@ -2,12 +2,15 @@
 use crate::calls;
 use crate::cases::{sheet_of, size_of_sheet, PLACES};
 use crate::desk::{Call, Desks};
-use crate::fummidrake::{breadths_at_station, stations, Entry};
+use crate::fummidrake::{breadths_at_station, lay_out, stations, Entry, Tank};
 
 const RUNS: usize = 600;
 const CALLS_A_RUN: usize = 100;
-/// The greatest number of refusal.
-const GREATEST: usize = 18;
+/// The numbers of refusal, and 0; the greatest is 29.
+const NUMBERS: [usize; 20] = [0, 1, 2, 3, 4, 5, 6, 7, 8, 9, 10, 11, 12, 13, 14, 15, 16, 17, 18, 29];
+const GREATEST: usize = 29;
+
+const UNDER_DECK: u8 = 1;
 
 /// Numbers at random, the same ones every time (xorshift64).
 struct Dice(u64);
@@ -47,7 +50,7 @@ pub fn check() -> Result<(), String> {
         let mut survey = Survey { dice: &mut dice, desks, occurred: &mut occurred };
         (0..CALLS_A_RUN).try_for_each(|_| survey.step())?;
     }
-    match occurred.iter().position(|number| !number) {
+    match NUMBERS.into_iter().find(|&number| !occurred[number]) {
         Some(number) => Err(format!("no call at random was refused with {number}")),
         None => Ok(()),
     }
@@ -60,7 +63,9 @@ impl Survey<'_> {
         }
         let call = match self.dice.below(100) {
             0 => calls::open(self.dice.one_of(&[99, 100, 100, 4_500, 150_000])),
-            1..=59 => self.entry(),
+            1..=47 => self.entry(),
+            48..=57 => self.tank(),
+            58..=59 => self.question(),
             60..=74 => calls::mark(self.id(), self.dice.below(5) as u8),
             75..=84 => calls::withdraw(self.id()),
             85..=90 => calls::undo(),
@@ -128,6 +133,70 @@ impl Survey<'_> {
             _ => {}
         }
         calls::enter(entry, heights, breadths)
+    }
+
+    /// A tank, mostly in a U that stands, and with the sections that the rules ask.
+    fn tank(&mut self) -> Box<dyn Call> {
+        let sheet = &self.desks.in_place.sheet;
+        let tonnage_length = sheet.tonnage_length();
+        let under_deck = sheet.standing().iter().find(|space| space.kind as u8 == UNDER_DECK);
+        let (within, whole, m) = under_deck.map_or((1, 4_000, 4), |space| (space.id, space.length, space.m));
+        let [length, fore] = self.ends(tonnage_length, whole);
+        let tank = Tank {
+            id: if self.dice.one_in(20) { self.id() } else { 1 + self.dice.below(9_999) as u16 },
+            within: if self.dice.one_in(10) { self.id() } else { within },
+            standing: self.dice.one_of(&[0, 0, 0, 1, 2, 3, 4]),
+            length,
+            fore,
+        };
+        let most = self.dice.one_of(&[10, 100, 100, 1_600, 20_000]);
+        let mut depths = self.measures(lay_out(tonnage_length, whole, length, fore).sections, most);
+        let mut breadths = self.measures(depths.len() * (usize::from(m) + 1), most);
+        match self.dice.below(40) {
+            0 => depths.push(1),
+            1 => breadths.push(30_001),
+            2 => depths.push(20_001),
+            3 => breadths.fill(0),
+            4 => depths.clear(),
+            5 => drop(breadths.pop()),
+            _ => {}
+        }
+        calls::enter_tank(tank, depths, breadths)
+    }
+
+    /// Where a tank is measured, or one of its sections; lengths now and then out of their ranges.
+    fn question(&mut self) -> Box<dyn Call> {
+        let tonnage_length = self.dice.one_of(&[99, 100, 2_000, 3_600, 4_800, 9_600, 30_000, 150_000, 150_001]);
+        let whole = match self.dice.below(3) {
+            0 => tonnage_length,
+            1 => self.dice.one_of(&[100, 1_800, 3_600, 28_800]),
+            _ => 100 + self.dice.below(149_901) as u32,
+        };
+        let [length, fore] = self.ends(tonnage_length, whole);
+        let asked = [tonnage_length, whole, length, fore];
+        match self.dice.below(2) {
+            0 => calls::lay_out(asked),
+            _ => calls::section_station(asked, self.dice.below(25) as usize),
+        }
+    }
+
+    /// The length and the fore end of a tank in a U: mostly so many thirds of its interval, so that stations fall between zones or, where
+    /// a third is no whole number, near that.
+    fn ends(&mut self, tonnage_length: u32, under_deck: u32) -> [u32; 2] {
+        let thirds = 3 * (stations(UNDER_DECK, tonnage_length, under_deck) as u64 - 1);
+        let own = 1 + self.dice.below(thirds);
+        let of_thirds = |thirds_of_it: u64| (thirds_of_it * u64::from(under_deck) / thirds) as u32;
+        let [length, fore] = [own, self.dice.below(thirds - own + 1)].map(of_thirds);
+        match self.dice.below(30) {
+            0 => [length, under_deck],
+            1 => [under_deck + 1 - fore, fore],
+            2 => [length + 1, fore],
+            3 => [length, fore + 1],
+            4 => [0, fore],
+            5 => [length, self.dice.one_of(&[150_000, 150_001, u32::MAX])],
+            6 => [self.dice.one_of(&[150_000, 150_001, u32::MAX]), fore],
+            _ => [length, fore],
+        }
     }
 
     /// From 1 to the most, and often the most.

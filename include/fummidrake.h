@@ -9,7 +9,7 @@
  * The archive is for x86-64 and wants memcpy, memmove and memset, nothing else: no other call of a C library, no heap, no input or
  * output. How much stack a call takes stands below, beside FUMMIDRAKE_STACK.
  *
- * Lengths, heights and breadths are in hundredths of a foot, tonnages in hundredths of a ton.
+ * Lengths, heights, depths and breadths are in hundredths of a foot, tonnages in hundredths of a ton.
  * Kinds: 1 U under-deck part, 2 B between-deck level, 3 S superstructure, 4 H hatchway, 5 R room.
  * Standings: 0 plain, 1 exempt, 2 exempt as water ballast, 3 deducted.
  *
@@ -18,14 +18,14 @@
  * | No. | Refused when |
  * |---|---|
  * | 1 | sheet not open |
- * | 2 | a kind, measure, standing or justified mark outside its range |
- * | 3 | stations, depths, heights or breadths not the number the rules ask |
+ * | 2 | a kind, measure, standing or justified mark outside its range; a tank's fore end over 150,000 |
+ * | 3 | stations, depths, heights or breadths not the number the rules ask; of a tank, a section or breadth missing or extra |
  * | 4 | new id outside its range or already standing |
  * | 5 | id to withdraw or mark, or enclosing id, isn't standing |
- * | 6 | kind can't take this standing, or the enclosing space is a hatchway |
+ * | 6 | kind can't take this standing, or the enclosing space is a hatchway; of a tank, it isn't a U |
  * | 7 | level would pass 8 |
  * | 8 | not plain, and a space above or below isn't plain |
- * | 9 | rooms would pass the enclosing tonnage, or U lengths the tonnage length |
+ * | 9 | rooms would pass the enclosing tonnage, or U lengths the tonnage length; a tank passes an end of its U |
  * | 10 | entry where 200 spaces stand |
  * | 11 | withdrawal of a space that encloses a room |
  * | 12 | nothing undoable, or nothing redoable |
@@ -35,6 +35,7 @@
  * | 16 | file shorter than 28 bytes or than its distance; count over 200; distance, zero byte, mark or tonnage length wrong |
  * | 17 | a record that no entry could have made, with its position from 1 |
  * | 18 | gross or net isn't what the records give |
+ * | 29 | a tank in a U that has no m: one read from a file; enter the U anew |
  */
 #ifndef FUMMIDRAKE_H
 #define FUMMIDRAKE_H
@@ -49,7 +50,8 @@
  * measured with a full sheet of 200 spaces, eight deep, and 64 changes (tools/stack.c). The first is the greatest of them. */
 #define FUMMIDRAKE_STACK FUMMIDRAKE_STACK_LIST
 #define FUMMIDRAKE_STACK_OPEN 8000
-#define FUMMIDRAKE_STACK_ENTER 22000
+#define FUMMIDRAKE_STACK_ENTER 27000
+#define FUMMIDRAKE_STACK_ENTER_TANK 27000
 #define FUMMIDRAKE_STACK_WITHDRAW 22000
 #define FUMMIDRAKE_STACK_MARK 48000
 #define FUMMIDRAKE_STACK_UNDO 20000
@@ -62,6 +64,8 @@
 #define FUMMIDRAKE_STACK_SPACE_AT 9000
 #define FUMMIDRAKE_STACK_STATIONS 1000
 #define FUMMIDRAKE_STACK_BREADTHS_AT_STATION 1000
+#define FUMMIDRAKE_STACK_LAY_OUT 1000
+#define FUMMIDRAKE_STACK_SECTION_STATION 1000
 #define FUMMIDRAKE_STACK_WRITE 29000
 #define FUMMIDRAKE_STACK_READ 80000
 #define FUMMIDRAKE_STACK_READ_BEFORE 80000
@@ -78,12 +82,14 @@
 extern "C" {
 #endif
 
-/* A space as it stands; `within` is the enclosing id, 0 for a U, B, S or H. */
+/* A space as it stands; `within` is the enclosing id, 0 for a U, B, S or H. `m` is a U's parts of depth, 4 or 6, where it was entered
+ * from offsets; else 0, and 0 for all that was read from a file. */
 typedef struct {
     uint16_t id;
     uint16_t within;
     uint8_t kind;
     uint8_t standing;
+    uint8_t m;
     uint32_t tonnage;
     uint32_t length;
 } fummidrake_space;
@@ -96,6 +102,15 @@ typedef struct {
     uint8_t standing;
     uint32_t length;
 } fummidrake_entry;
+
+/* A tank to be entered; `within` is the id of its U, `fore` the distance of its fore end along that. */
+typedef struct {
+    uint16_t id;
+    uint16_t within;
+    uint8_t standing;
+    uint32_t length;
+    uint32_t fore;
+} fummidrake_tank;
 
 /* A change as a sheet keeps it. */
 typedef struct {
@@ -138,6 +153,13 @@ typedef struct {
     fummidrake_sheet sheet;
 } fummidrake_reported;
 
+/* Where a tank is measured: the number, its parts, and how many sections it asks (0 and 0 where refused). */
+typedef struct {
+    uint8_t number;
+    size_t parts;
+    size_t sections;
+} fummidrake_laid_out;
+
 /* The number, the bytes written (0 where refused), and the sheet as it came. */
 typedef struct {
     uint8_t number;
@@ -173,6 +195,7 @@ FUMMIDRAKE_FIELD(fummidrake_space, id, 0);
 FUMMIDRAKE_FIELD(fummidrake_space, within, 2);
 FUMMIDRAKE_FIELD(fummidrake_space, kind, 4);
 FUMMIDRAKE_FIELD(fummidrake_space, standing, 5);
+FUMMIDRAKE_FIELD(fummidrake_space, m, 6);
 FUMMIDRAKE_FIELD(fummidrake_space, tonnage, 8);
 FUMMIDRAKE_FIELD(fummidrake_space, length, 12);
 FUMMIDRAKE_SIZE(fummidrake_space, 16);
@@ -182,6 +205,12 @@ FUMMIDRAKE_FIELD(fummidrake_entry, kind, 4);
 FUMMIDRAKE_FIELD(fummidrake_entry, standing, 5);
 FUMMIDRAKE_FIELD(fummidrake_entry, length, 8);
 FUMMIDRAKE_SIZE(fummidrake_entry, 12);
+FUMMIDRAKE_FIELD(fummidrake_tank, id, 0);
+FUMMIDRAKE_FIELD(fummidrake_tank, within, 2);
+FUMMIDRAKE_FIELD(fummidrake_tank, standing, 4);
+FUMMIDRAKE_FIELD(fummidrake_tank, length, 8);
+FUMMIDRAKE_FIELD(fummidrake_tank, fore, 12);
+FUMMIDRAKE_SIZE(fummidrake_tank, 16);
 FUMMIDRAKE_FIELD(fummidrake_open_change, made, 0);
 FUMMIDRAKE_FIELD(fummidrake_open_change, before, 1);
 FUMMIDRAKE_FIELD(fummidrake_open_change, after, 2);
@@ -208,6 +237,10 @@ FUMMIDRAKE_FIELD(fummidrake_reported, gross, 8);
 FUMMIDRAKE_FIELD(fummidrake_reported, net, 16);
 FUMMIDRAKE_FIELD(fummidrake_reported, sheet, 24);
 FUMMIDRAKE_SIZE(fummidrake_reported, 5304);
+FUMMIDRAKE_FIELD(fummidrake_laid_out, number, 0);
+FUMMIDRAKE_FIELD(fummidrake_laid_out, parts, 8);
+FUMMIDRAKE_FIELD(fummidrake_laid_out, sections, 16);
+FUMMIDRAKE_SIZE(fummidrake_laid_out, 24);
 FUMMIDRAKE_FIELD(fummidrake_written, number, 0);
 FUMMIDRAKE_FIELD(fummidrake_written, bytes, 8);
 FUMMIDRAKE_FIELD(fummidrake_written, sheet, 16);
@@ -235,6 +268,15 @@ fummidrake_changed fummidrake_open(uint32_t length);
 FUMMIDRAKE_MUST_USE
 fummidrake_changed fummidrake_enter(fummidrake_sheet sheet, fummidrake_entry entry, const uint32_t *heights, size_t heights_count,
                                     const uint32_t *breadths, size_t breadths_count);
+
+/* Enters a tank that follows the hull, a room directly inside its U, from its sections, as fummidrake_lay_out counts them: a depth a
+ * section, and the breadths section by section from the bow, at each m + 1 from above, with that U's m. Where a tank station falls
+ * exactly between two zones there are two sections, the fore zone's first, and the larger area is taken. Refused with 1 to 6, 9, 10,
+ * 29: with 3, and with 9 by the tank's tonnage, only in a U with m whose ends the tank doesn't pass. On a sheet that no call handed
+ * back 7 and 8 are there too, as of any room. */
+FUMMIDRAKE_MUST_USE
+fummidrake_changed fummidrake_enter_tank(fummidrake_sheet sheet, fummidrake_tank tank, const uint32_t *depths, size_t depths_count,
+                                         const uint32_t *breadths, size_t breadths_count);
 
 /* Strikes out the space with an id. Refused with 1, 5, 11. */
 FUMMIDRAKE_MUST_USE
@@ -284,6 +326,16 @@ size_t fummidrake_stations(uint8_t kind, uint32_t tonnage_length, uint32_t lengt
 FUMMIDRAKE_MUST_USE
 size_t fummidrake_breadths_at_station(uint8_t kind, uint32_t middle);
 
+/* Says where a tank is measured, in a U of the length `under_deck`, before it is entered: its parts, and how many sections it asks.
+ * Refused with 2, 9. It needs no sheet; a U longer than the tonnage length is a part made by a step. */
+FUMMIDRAKE_MUST_USE
+fummidrake_laid_out fummidrake_lay_out(uint32_t tonnage_length, uint32_t under_deck, uint32_t length, uint32_t fore);
+
+/* Gives the number, from 1, of the under-deck station inside whose section the tank's section, counted from 0, is measured; 0 past
+ * the last section, and where fummidrake_lay_out refuses. */
+FUMMIDRAKE_MUST_USE
+size_t fummidrake_section_station(uint32_t tonnage_length, uint32_t under_deck, uint32_t length, uint32_t fore, size_t section);
+
 /* Writes the sheet with its justified mark into a buffer, from the byte `at` on: 16 bytes a space and 28 behind them; no byte
  * before or after is touched, and none where refused, with 1, 2, 13, 14, 15. */
 FUMMIDRAKE_MUST_USE
@@ -330,6 +382,15 @@ FUMMIDRAKE_MUST_USE
 static inline uint8_t fummidrake_enter_on(fummidrake_sheet *sheet, fummidrake_entry entry, const uint32_t *heights,
                                           size_t heights_count, const uint32_t *breadths, size_t breadths_count) {
     fummidrake_changed answer = fummidrake_enter(*sheet, entry, heights, heights_count, breadths, breadths_count);
+    *sheet = answer.sheet;
+    return answer.number;
+}
+
+/* Enters a tank on the sheet, and answers the number: see fummidrake_enter_tank. */
+FUMMIDRAKE_MUST_USE
+static inline uint8_t fummidrake_enter_tank_on(fummidrake_sheet *sheet, fummidrake_tank tank, const uint32_t *depths,
+                                               size_t depths_count, const uint32_t *breadths, size_t breadths_count) {
+    fummidrake_changed answer = fummidrake_enter_tank(*sheet, tank, depths, depths_count, breadths, breadths_count);
     *sheet = answer.sheet;
     return answer.number;
 }

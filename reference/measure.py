@@ -2,10 +2,12 @@
 
 Lengths, breadths, depths and heights are handed in as hundredths of a foot and tonnages as hundredths of a ton.
 Volumes are worked out in cubic feet, as exact fractions, and rounded once at the end.
-Paragraph numbers are those of 46 CFR part 69; where one reads "the paper", the rule stands only there.
+Paragraph numbers are those of 46 CFR part 69; where one reads "the paper", the rule stands only there. "The request" is
+T-01, tanks that follow the hull.
 """
 
 from fractions import Fraction
+from itertools import accumulate
 from math import floor
 from typing import Sequence
 
@@ -21,6 +23,7 @@ KINDS = (U, B, S, H, R)
 ACCEPTED = 0
 OUT_OF_RANGE = 2  # a kind or measure outside its range
 WRONG_NUMBER = 3  # stations, depths, heights or breadths not the number the rules ask
+PASSES_AN_END = 9  # of a tank, an end of its U
 
 # Units (the paper, "Units and roundings").
 HUNDREDTHS = 100  # in a foot and in a ton
@@ -33,8 +36,10 @@ DIVISIONS_OF_THE_LAST_CLASS = 16  # over 250 feet
 
 TWO_PARTS_UP_TO = 2000  # 69.109(m)(1)(i), 20 feet or under
 FOUR_PARTS_UNDER = 4000  # 69.109(m)(1)(ii), over 20 feet and under 40 feet
-EVEN_NUMBERS = range(2, 17, 2)  # for a superstructure, 69.113(b)(2) and the paper
+EVEN_NUMBERS = range(2, 17, 2)  # for a superstructure, 69.113(b)(2) and the paper; for a tank, the request
 FOUR_DEPTH_PARTS_UP_TO = 1600  # 69.109(h)(4)(i), 16 feet or less
+PARTS_OF_DEPTH = (4, 6)  # the m that there are
+THIRDS = 3  # in an interval
 
 HATCHWAY_SHARE = Fraction(1, 200)  # 69.115(c), one-half of one percent
 BALLAST_SHARE = Fraction(30, 100)  # 69.117(f)(4), 30%
@@ -47,6 +52,7 @@ LEAST_BREADTH = LEAST_HEIGHT = {U: 0, B: 0, S: 0, H: 1, R: 1}
 LENGTHS = {kind: range(LEAST_LENGTH[kind], GREATEST_LENGTH + 1) for kind in KINDS}
 BREADTHS = {kind: range(LEAST_BREADTH[kind], GREATEST_BREADTH + 1) for kind in KINDS}
 HEIGHTS = {kind: range(LEAST_HEIGHT[kind], GREATEST_HEIGHT + 1) for kind in KINDS}
+FORE_ENDS = range(0, GREATEST_LENGTH + 1)  # of a tank, the request: '2 for a fore end over 150,000'
 
 
 # Units and roundings
@@ -100,10 +106,20 @@ def parts_of_under_deck(tonnage_length: int, length: int) -> int:
     return parts_by_table(length) if length == tonnage_length else parts_of_step_part(length)
 
 
-def parts_of_superstructure(tonnage_length: int, length: int) -> int:
-    """'The even number from 2 to 16 whose interval is nearest ... on a tie, the greater number.'"""
-    interval = Fraction(tonnage_length, parts_by_table(tonnage_length))
+def parts_nearest(length: int, interval: Fraction) -> int:
+    """'The even number from 2 to 16 whose interval is nearest, as exact fractions ... on a tie, the greater number.'"""
     return min(EVEN_NUMBERS, key=lambda number: (abs(Fraction(length, number) - interval), -number))
+
+
+def parts_of_superstructure(tonnage_length: int, length: int) -> int:
+    """The reference is 'the tonnage length divided by its number'."""
+    return parts_nearest(length, Fraction(tonnage_length, parts_by_table(tonnage_length)))
+
+
+def parts_of_tank(tonnage_length: int, under_deck_length: int, length: int) -> int:
+    """'Its length is divided as an S is, with that U's interval as the reference.'"""
+    interval = Fraction(under_deck_length, parts_of_under_deck(tonnage_length, under_deck_length))
+    return parts_nearest(length, interval)
 
 
 def parts(kind: int, tonnage_length: int, length: int) -> int:
@@ -182,6 +198,105 @@ def volume(kind: int, length: int, heights: Sequence[int], breadths: Sequence[in
     if kind in (B, S):
         return volume_of_level(length, heights, breadths)
     return volume_of_box(length, heights[0], breadths[0])
+
+
+# Tanks that follow the hull: 69.117(g)(3) and the request. A point along the U is an exact fraction of hundredths of a
+# foot from its fore end; a rounded third interval has no part in where zones end and stations lie.
+
+def zone_ends(under_deck_length: int, number: int) -> list[Fraction]:
+    """Where the zones of a U in that number of parts end, from the bow; the last ends where the U does.
+
+    'Each under-deck station has a zone of as many thirds of the interval as its multiplier, and the zones fill the
+    length with no gap.'
+    """
+    third = Fraction(under_deck_length, number) / THIRDS
+    return list(accumulate(times * third for times in multipliers(number + 1)))
+
+
+def zones_at(ends: Sequence[Fraction], point: Fraction) -> list[int]:
+    """The number, from 1, of the zone that a point falls in; 'exactly between two zones', of both, fore zone first."""
+    fore_ends = [Fraction(0), *ends[:-1]]
+    return [number for number, (fore, aft) in enumerate(zip(fore_ends, ends), start=1) if fore <= point <= aft]
+
+
+def stations_of_tank(fore: int, length: int, number: int) -> list[Fraction]:
+    """Where the stations of a tank in that number of parts lie along its U: 'its fore end as a distance along it'."""
+    return [fore + station * Fraction(length, number) for station in range(number + 1)]
+
+
+def zones_of_stations(tonnage_length: int, under_deck_length: int, length: int, fore: int) -> list[list[int]]:
+    """For each station of a tank that passes no end of its U, the under-deck stations in whose zones it falls."""
+    ends = zone_ends(under_deck_length, parts_of_under_deck(tonnage_length, under_deck_length))
+    number = parts_of_tank(tonnage_length, under_deck_length, length)
+    return [zones_at(ends, point) for point in stations_of_tank(fore, length, number)]
+
+
+def sections_of_tank(tonnage_length: int, under_deck_length: int, length: int, fore: int) -> int:
+    """How many sections the surveyor gives: one a station, and 'both' where it falls between two zones."""
+    return sum(len(zones) for zones in zones_of_stations(tonnage_length, under_deck_length, length, fore))
+
+
+def areas_of_sections(m: int, depths: Sequence[int], breadths: Sequence[int]) -> list[Fraction]:
+    """'As depth and breadths in a station's ranges, with that U's m': m+1 breadths a section, section by section."""
+    row = m + 1
+    rows = [breadths[first:first + row] for first in range(0, len(breadths), row)]
+    return [area_of_station(depth, of_section) for depth, of_section in zip(depths, rows)]
+
+
+def areas_of_tank(zones: Sequence[Sequence[int]], of_sections: Sequence[Fraction]) -> list[Fraction]:
+    """The area at each station: of 'both sections ... the larger area is taken'."""
+    left = iter(of_sections)
+    return [max(next(left) for _ in of_station) for of_station in zones]
+
+
+def volume_of_tank(
+    tonnage_length: int, under_deck_length: int, m: int, length: int, fore: int, depths: Sequence[int],
+    breadths: Sequence[int],
+) -> Fraction:
+    """The cubic feet of a tank that has the sections asked for: the multipliers over its areas, as of a U."""
+    zones = zones_of_stations(tonnage_length, under_deck_length, length, fore)
+    return over_length(length, areas_of_tank(zones, areas_of_sections(m, depths, breadths)))
+
+
+def passes_an_end(under_deck_length: int, length: int, fore: int) -> bool:
+    """9: 'if the tank passes an end of its U'."""
+    return fore + length > under_deck_length
+
+
+def tank_out_of_range(length: int, fore: int, depths: Sequence[int], breadths: Sequence[int]) -> bool:
+    """2: a room's length, 'a fore end over 150,000', 'depth and breadths in a station's ranges', surplus ones too."""
+    return (
+        length not in LENGTHS[R]
+        or fore not in FORE_ENDS
+        or any(depth not in HEIGHTS[U] for depth in depths)
+        or any(breadth not in BREADTHS[U] for breadth in breadths)
+    )
+
+
+def tank_wrong_number(
+    tonnage_length: int, under_deck_length: int, m: int, length: int, fore: int, depths: Sequence[int],
+    breadths: Sequence[int],
+) -> bool:
+    """3: 'if a section or breadth is missing or extra', by the totals; the tank passes no end of its U."""
+    sections = sections_of_tank(tonnage_length, under_deck_length, length, fore)
+    return len(depths) != sections or len(breadths) != sections * (m + 1)
+
+
+def zones(tonnage_length: int, under_deck_length: int, length: int, fore: int) -> tuple[int, int, list[int]]:
+    """Where to measure a tank: 0, its parts, and for each section the under-deck station in whose zone it falls.
+
+    2 where a length or the fore end is outside its range, 9 where the tank passes an end; then 0 parts and nothing.
+    """
+    if (
+        tonnage_length not in TONNAGE_LENGTHS
+        or under_deck_length not in LENGTHS[U]
+        or tank_out_of_range(length, fore, [], [])
+    ):
+        return OUT_OF_RANGE, 0, []
+    if passes_an_end(under_deck_length, length, fore):
+        return PASSES_AN_END, 0, []
+    of_stations = zones_of_stations(tonnage_length, under_deck_length, length, fore)
+    return ACCEPTED, len(of_stations) - 1, [number for of_station in of_stations for number in of_station]
 
 
 # Refusals 2 and 3

@@ -8,12 +8,13 @@ after its last line.
 """
 
 import sys
+from fractions import Fraction
 from itertools import combinations, islice, product
 from random import Random
 from typing import Callable, Iterator, Sequence
 
 from reference import command_line, dayfile, figures, files, measure as m, sheet as s
-from reference.figures import one_of, word
+from reference.figures import one_of, some, word
 from reference.measure import B, H, R, S, U
 from reference.sheet import BALLAST, DEDUCTED, EXEMPT, PLAIN, Sheet
 from reference.survey import GREATEST_SIZE, MOST_DIGITS, MOST_NUMBERS, Session, in_hex
@@ -63,6 +64,18 @@ def divided(
     """The entry of a U, B or S with one height and one breadth throughout."""
     space = figures.uniform(kind, tonnage_length, length, height, breadth)
     return enter(id, 0, kind, standing, length, space.heights, space.breadths)
+
+
+def tank(
+    id: int, within: int, standing: int, length: int, fore: int, depths: Sequence[int], breadths: Sequence[int]
+) -> str:
+    """The line of a tank."""
+    return call("tank", id, within, standing, length, fore, depths, breadths)
+
+
+def zones(tonnage_length: int, under_deck_length: int, length: int, fore: int) -> str:
+    """The line that asks where to measure a tank."""
+    return call("zones", tonnage_length, under_deck_length, length, fore)
 
 
 def mark(id: int, standing: int) -> str:
@@ -135,6 +148,14 @@ def whole_sheet() -> Lines:
     yield enter(5, 0, H, PLAIN, 500, [500], [400])
 
 
+def read_and_entered_anew() -> Lines:
+    """The thousand read from its file, so that its U have no m, and U 1 entered anew: it has m 4."""
+    session = Session()
+    session.answers("".join(line + "\n" for line in a_thousand()))
+    yield read(dayfile.bytes_of(session.sheet, s.NOT_MARKED))
+    yield from (withdraw(1), divided(1, U, 1200, 600, 1200, 500))
+
+
 def tried(session: Session, line: str) -> Lines:
     """A change, looked at and undone where it is accepted."""
     before = session.sheet
@@ -152,6 +173,8 @@ def not_open(rng: Random, session: Session) -> Lines:
     yield from (divided(1, U, 1200, 600, 1200, 500), hatchway(2, 10), room(3, 1, 5), room(0, 0, 5, 4))
     yield from (enter(1, 0, 9, 0, 0, [], []), enter(10_000, 0, H, 1, 2**32, [0], []))
     yield from (withdraw(1), withdraw(0), mark(1, 0), mark(1, 4), mark(65_536, 256))
+    yield from (tank(2, 1, PLAIN, 300, 0, [9] * 3, [9] * 15), tank(0, 0, 4, 0, 2**32, [20_001], []))
+    yield from (zones(4800, 4800, 4800, 0), zones(4800, 4800, 4800, 1), zones(99, 4800, 4800, 0))
     yield from LOOK
 
 
@@ -629,6 +652,307 @@ def generated_files(rng: Random, session: Session) -> Lines:
     yield from (read(rng.randbytes(GREATEST_SIZE - len(whole)) + whole), *LOOK_AND_REPORT)
 
 
+# Sections of tanks
+
+def sections(sheet: Sheet, within: int, length: int, fore: int) -> tuple[int, int]:
+    """How many sections a tank has in a standing U, and how many breadths each; as with m 4 where the U has no m."""
+    under_deck = s.find(sheet.spaces, within)
+    return m.sections_of_tank(sheet.length, under_deck.length, length, fore), (under_deck.m or 4) + 1
+
+
+def even_tank(
+    sheet: Sheet, id: int, within: int, length: int, fore: int, depth: int = 9, breadth: int = 9, standing: int = PLAIN
+) -> str:
+    """A tank with as many sections as asked, all with one depth and one breadth."""
+    count, row = sections(sheet, within, length, fore)
+    return tank(id, within, standing, length, fore, [depth] * count, [breadth] * (count * row))
+
+
+def tank_of_a_thousand(
+    id: int, within: int, length: int, fore: int, depth: int = 9, breadth: int = 9, standing: int = PLAIN
+) -> str:
+    """The same in U 1 or 2 of the thousand, which are 600 long on a tonnage length of 1200 and have m 4."""
+    count = m.sections_of_tank(1200, 600, length, fore)
+    return tank(id, within, standing, length, fore, [depth] * count, [breadth] * (5 * count))
+
+
+def uneven_tank(rng: Random, sheet: Sheet, id: int, within: int, length: int, fore: int) -> str:
+    """A tank with as many sections as asked, of any depths, all of them narrow."""
+    count, row = sections(sheet, within, length, fore)
+    return tank(id, within, PLAIN, length, fore, some(rng, count, 0, 9999), some(rng, count * row, 0, 99))
+
+
+def misjudged(session: Session, id: int, within: int, length: int, fore: int) -> Lines:
+    """A tank with one section for each of its stations, one with one more, and one with two for each."""
+    _, row = sections(session.sheet, within, length, fore)
+    stations = m.parts_of_tank(session.sheet.length, s.find(session.sheet.spaces, within).length, length) + 1
+    for count in (stations, stations + 1, 2 * stations):
+        yield from tried(session, tank(id, within, PLAIN, length, fore, [9] * count, [9] * (count * row)))
+
+
+def tank_figures(rng: Random, session: Session) -> Lines:
+    """The request's figures: the box that is its whole U, a station just between two zones and one hundredth off it."""
+    yield "# Tanks: the whole box, which has the U's tonnage"
+    yield from ("open 4800", divided(1, U, 4800, 4800, 1200, 2000), zones(4800, 4800, 4800, 0))
+    yield from (tank(2, 1, BALLAST, 4800, 0, [1200] * 7, [2000] * 35), *LOOK_AND_REPORT, room(3, 1, 1), room(3, 1))
+    yield from (withdraw(2), "undo", mark(2, DEDUCTED), *LOOK_AND_REPORT)
+    yield "# Zones of 6 parts that end at 100, 500, 700, 1100, 1300, 1700 and 1800"
+    yield from ("open 1800", divided(1, U, 1800, 1800, 1200, 1000))
+    for end in (100, 500, 700, 1100, 1300, 1700, 1800):
+        for fore in (end - 2, end - 1, end, end + 1):
+            yield zones(1800, 1800, 2, fore)
+    for fore in (99, 100, 101):
+        yield zones(1800, 1800, 600, fore)
+        yield from misjudged(session, 2, 1, 600, fore)
+        yield from tried(session, even_tank(session.sheet, 2, 1, 600, fore, 1200, 1000))
+    yield "# The larger of two sections: the fore one, the aft one, both alike, the broader, the deeper"
+    breadths = [1000] * 25
+    for depths in ([1200, 600, 1200, 600, 1200], [600, 1200, 1200, 1200, 600], [1200] * 5, [0, 1200, 1200, 1200, 0]):
+        yield from tried(session, tank(2, 1, PLAIN, 600, 100, depths, breadths))
+    narrow, broad = [10, 20, 30, 20, 10], [500, 10, 10, 10, 10]
+    for rows in product((narrow, broad), repeat=4):
+        yield from tried(session, tank(2, 1, PLAIN, 600, 100, [1200, 1200, 900, 1100, 1200], sum(
+            (rows[0], rows[1], broad, rows[2], rows[3]), []
+        )))
+
+
+def tank_refusals(rng: Random, session: Session) -> Lines:
+    """Tanks to which several numbers apply, in every enclosing space, on a sheet with places and on a full one."""
+    yield "# Tanks: several numbers at once"
+    yield from read_and_entered_anew()
+    yield from (mark(3, EXEMPT), hatchway(4, 50), room(5, 1, 10), room(6, 2, 10), divided(7, B, 1200, 1200, 50, 50))
+    yield from (*chain(1, 11, 7, 1), *LOOK)
+    right, wrong, over = ([9] * 3, [9] * 15), ([9] * 2, [9] * 15), ([1200] * 3, [500] * 15)
+    measures = (  # standing, length, fore, depths and breadths: accepted; 3; 9 by an end; 3 and that; 9 by tonnage; 2
+        (PLAIN, 300, 0, *right), (EXEMPT, 300, 0, *wrong), (DEDUCTED, 300, 301, *right), (PLAIN, 601, 0, [], []),
+        (EXEMPT, 600, 0, *over), (4, 300, 0, *right), (PLAIN, 300, 0, [9] * 3, [9] * 14 + [30_001]),
+        (PLAIN, 300, 150_001, [9, 20_001], [9]),
+    )
+    for full in (False, True):
+        if full:
+            yield from (room(id, 5) for id in range(1000, 1000 + s.PLACES - len(session.sheet.spaces)))
+        refused_ids = ((5, 1), (5, 2)) if full else ((5, 1), (5, 2), (5, 3), (5, 77), (0, 1))
+        for id, within in (*((500, one) for one in (1, 2, 3, 4, 5, 7, 17, 77, 500)), *refused_ids):
+            for standing, length, fore, depths, breadths in measures:
+                yield from tried(session, tank(id, within, standing, length, fore, depths, breadths))
+        yield from ("counts", "report 0", tank(5, 5, PLAIN, 300, 0, *right), tank(2, 2, PLAIN, 601, 0, *right))
+    yield "# A place again: 29 alone, and accepted"
+    yield from (withdraw(1000), tank(500, 2, PLAIN, 300, 0, *right), tank(500, 1, PLAIN, 300, 0, *right), "counts")
+    yield from (tank(501, 1, PLAIN, 300, 0, *right), tank(501, 2, PLAIN, 300, 0, *right), "undo", "undo")
+    yield from (tank(500, 2, PLAIN, 300, 0, [], []), tank(500, 2, PLAIN, 601, 0, *wrong), "counts", "report 0")
+
+
+def tank_ranges(rng: Random, session: Session) -> Lines:
+    """One argument of a tank at an end of its range or beyond, or above its type; measures too few and too many."""
+    yield "# Tanks: ranges and numbers of measures"
+    yield from ("open 1800", divided(1, U, 1800, 900, 1200, 500), divided(2, U, 1800, 900, 1601, 500), *LOOK)
+    length, fore, depths, breadths = 300, 150, [9] * 4, [9] * 20
+    tanks = [tank(id, 1, 0, length, fore, depths, breadths) for id in (0, 1, 7, 9_999, 10_000, *BEYOND_16)]
+    tanks += [tank(7, id, 0, length, fore, depths, breadths) for id in (0, 2, 7, 9_999, 10_000, *BEYOND_16)]
+    tanks += [tank(7, 1, one, length, fore, depths, breadths) for one in (*s.STANDINGS, *BEYOND_8)]
+    tanks += [tank(7, 1, 0, one, fore, depths, breadths) for one in (0, 751, 150_000, 150_001, *BEYOND_32)]
+    tanks += [tank(7, 1, 0, length, one, depths, breadths) for one in (601, 150_000, 150_001, *BEYOND_32)]
+    tanks += [tank(7, 1, 0, one, other, depths, breadths) for one, other in (
+        (2**32 - 1, 2**32 - 1), (2**32 - 150, 150), (150, 2**32 - 150), (150_001, 0), (150_000, 150_000), (0, 901),
+        (0, 900), (1, 900), (900, 1), (901, 0),
+    )]
+    tanks += [even_tank(session.sheet, 7, 1, *ends) for ends in (
+        (1, 0), (1, 149), (1, 150), (1, 899), (2, 898), (750, 150), (749, 150), (749, 151), (900, 0), (899, 0),
+        (899, 1),
+    )]
+    for one in (0, 20_000, 20_001, *BEYOND_32):
+        tanks.append(tank(7, 1, 0, length, fore, [one, *depths[1:]], breadths))
+        tanks.append(tank(7, 1, 0, length, fore, [*depths, one], breadths))
+    for one in (0, 30_000, 30_001, *BEYOND_32):
+        tanks.append(tank(7, 1, 0, length, fore, depths, [*breadths[1:], one]))
+        tanks.append(tank(7, 1, 0, length, fore, depths, [one, *breadths]))
+    for others in ([], depths * 2):
+        tanks += [tank(7, 1, 0, length, fore, others, breadths), tank(7, 1, 0, length, fore, depths, others)]
+    for more, less in product((3, 4, 5), (15, 16, 19, 20, 21, 24, 25)):
+        tanks.append(tank(7, 1, 0, length, fore, [8] * more, [8] * less))
+    tanks += [tank(7, 2, 0, length, fore, [8] * 4, [8] * count) for count in (20, 27, 28, 29)]
+    tanks += [tank(7, 1, 0, length, fore, [0] * 4, [0] * 20), tank(7, 1, 0, length, fore, [1], [9] * MOST_NUMBERS)]
+    for line in tanks:
+        yield from tried(session, line)
+    yield from LOOK
+
+
+def in_thirds(thirds: int, under_deck_length: int, number: int) -> int:
+    """That many thirds of the interval of a U in that number of parts, of which they are a whole number."""
+    return thirds * under_deck_length // (m.THIRDS * number)
+
+
+# Tonnage length and length of a U, both of whose third intervals are exact, and tanks in it: the thirds of the interval
+# from its fore end and in length. Zones end at 1, 5, 7, 11, 13, .. thirds. A length of 8 is a tie of 2 and 4 parts.
+TANKS_IN_THIRDS: dict[tuple[int, int], tuple[tuple[int, int], ...]] = {
+    (3600, 900): ((0, 6), (1, 4), (0, 2), (1, 5), (1, 2), (3, 2), (4, 2), (0, 1), (5, 1)),
+    (7200, 3600): ((0, 12), (1, 10), (1, 8), (3, 8), (1, 6), (5, 6), (5, 2), (7, 4), (11, 1), (1, 4), (4, 8)),
+    (1800, 1800): (
+        (0, 18), (1, 12), (1, 6), (5, 8), (3, 8), (5, 12), (5, 2), (7, 4), (1, 16), (5, 13), (2, 15), (1, 15),
+    ),
+    (7200, 7200): ((1, 18), (5, 18), (0, 23), (1, 22)),
+    (12000, 12000): ((1, 24),),
+    (48000, 48000): ((5, 42),),
+}
+
+
+def tank_sections(rng: Random, session: Session) -> Lines:
+    """Stations between two zones at one and at several places of a tank, and a hundredth off, with m 4 and with m 6."""
+    for (tonnage_length, length), tanks in TANKS_IN_THIRDS.items():
+        number = m.parts_of_under_deck(tonnage_length, length)
+        for depth, some_tanks in ((1600, tanks), (1601, tanks[::2])) if number < 8 else ((1601, tanks),):
+            yield f"# Tanks: a U of {length} in {number} parts with m {m.parts_of_depth(depth)}"
+            yield from (f"open {tonnage_length}", divided(1, U, tonnage_length, length, depth, 2000))
+            for fore, own_length in some_tanks:
+                fore, own_length = (in_thirds(thirds, length, number) for thirds in (fore, own_length))
+                for off in (-1, 0, 1) if number < 8 else (0,):
+                    if 0 <= fore + off and (off == 0 or rng.randrange(3) == 0) and fore + off + own_length <= length:
+                        yield zones(tonnage_length, length, own_length, fore + off)
+                        yield from tried(session, uneven_tank(rng, session.sheet, 2, 1, own_length, fore + off))
+                if number < 8 and rng.randrange(3) == 0:
+                    yield from misjudged(session, 2, 1, own_length, fore)
+    yield "# Tanks: ends of zones that are no whole hundredths, where stations are none either"
+    yield from ("open 1200", divided(1, U, 1200, 1200, 1200, 500))
+    for own_length, fore in (
+        (1000, 0), (1000, 1), (1000, 200), (999, 0), (1001, 0), (700, 100), (400, 133), (400, 134)
+    ):
+        yield zones(1200, 1200, own_length, fore)
+        yield from tried(session, uneven_tank(rng, session.sheet, 2, 1, own_length, fore))
+    yield "# Tanks: the U's m and not one by their own depths; the U's own interval and not that of the tonnage length"
+    yield from ("open 4800", enter(1, 0, U, PLAIN, 2000, [9, 1601, 9], [900] * 21))
+    yield from (enter(2, 0, U, PLAIN, 2800, [20_000, 9, 1600, 9, 20_000], [900] * 25), "spaces")
+    for within, depth, row in product((1, 2), (1600, 1601), (5, 7)):
+        yield from tried(session, tank(3, within, PLAIN, 100, 0, [depth] * 3, [5] * (3 * row)))
+    for within, own_length in product((1, 2), (1300, 1400, 1866, 1867, 2000, 2800)):
+        if own_length <= s.find(session.sheet.spaces, within).length:
+            yield zones(4800, s.find(session.sheet.spaces, within).length, own_length, 0)
+            yield from tried(session, even_tank(session.sheet, 3, within, own_length, 0))
+    yield from LOOK
+
+
+def tanks_and_files(rng: Random, session: Session) -> Lines:
+    """A U read from a file has no m until it is entered anew; marks, undo and redo bring m along, or none."""
+    right = ([600] * 3, [300] * 15)
+    one, other = tank(8, 1, BALLAST, 300, 0, *right), tank(9, 2, PLAIN, 300, 300, *right)
+    yield "# Tanks: a U that came from a file, and the same entered anew"
+    yield from (*a_thousand(), one, other, mark(1, PLAIN), room(10, 8, 20), *LOOK_AND_REPORT)
+    file = dayfile.bytes_of(session.sheet, 0)
+    yield from (*read_and_looked_at(session, file), withdraw(8), withdraw(10), withdraw(8), one, mark(1, PLAIN), one)
+    yield from ("spaces", withdraw(1), one, "undo", one, "redo", divided(1, U, 1200, 600, 1200, 500), one)
+    yield from LOOK_AND_REPORT
+    yield from (withdraw(9), withdraw(2), "undo", other, "redo", divided(2, U, 1200, 600, 1601, 500), other, "spaces")
+    yield from (tank(9, 2, PLAIN, 300, 300, [600] * 3, [300] * 21), *LOOK_AND_REPORT, *["undo"] * 9, *LOOK, one, other)
+    yield from (*["redo"] * 4, "spaces", *["redo"] * 5, *LOOK_AND_REPORT, "redo")
+    yield from read_and_looked_at(session, dayfile.bytes_of(session.sheet, 0))
+    yield "# Tanks: a withdrawal undone, a mark, a mark undone and an entry made again keep m"
+    yield from (*a_thousand(), withdraw(1), one, "undo", one, "spaces", "undo")
+    yield from (mark(1, PLAIN), one, "undo", "undo", one)
+    yield from ("undo", mark(1, PLAIN), "undo", "redo", one, "spaces", *["undo"] * 6, "spaces", "redo", one, *LOOK)
+
+
+def tanks_as_rooms(rng: Random, session: Session) -> Lines:
+    """A tank is a room in every way: rooms inside and beside it, marks, withdrawals, undo, redo and reports."""
+    yield "# Tanks as rooms"
+    yield from (*a_thousand(), tank_of_a_thousand(4, 1, 300, 100, 1200, 500), "spaces")
+    own, whole = session.sheet.spaces[-1].tonnage, s.find(session.sheet.spaces, 1).tonnage
+    yield from (room(5, 4, own + 1), room(5, 4, own), room(6, 4, 1))
+    yield from (room(6, 1, whole - own + 1), room(6, 1, whole - own))
+    for depth, breadth in ((0, 0), (9, 500), (20, 500), (1200, 500)):
+        yield from tried(session, tank_of_a_thousand(7, 1, 300, 300, depth, breadth))
+    yield from ("undo", *LOOK, room(6, 1, whole - own - 1))
+    for length in (166, 167, 300, 500, 501):  # of 0, 1, 1, 1 and 2, where 1 is left
+        yield from tried(session, tank_of_a_thousand(7, 1, length, 0, 60, 50))
+    yield from (tank_of_a_thousand(7, 2, 600, 0, 1200, 500), room(8, 2, 1), tank_of_a_thousand(8, 2, 1, 0))
+    yield from (*LOOK_AND_REPORT, "undo", "undo", tank_of_a_thousand(8, 2, 300, 0, 1200, 500, EXEMPT))
+    yield from (tank_of_a_thousand(9, 2, 300, 300, 1200, 500, BALLAST), *LOOK_AND_REPORT)
+    yield "# Tanks: marked, withdrawn, undone and made again"
+    yield from (withdraw(4), withdraw(2), mark(4, EXEMPT), mark(5, DEDUCTED), mark(4, PLAIN), mark(5, DEDUCTED))
+    yield from (mark(4, BALLAST), room(10, 8, 5, EXEMPT), room(10, 8, 5), mark(10, BALLAST), *LOOK_AND_REPORT)
+    yield from (withdraw(9), "spaces", "undo", "spaces", "redo", "undo", "undo", "undo", withdraw(8))
+    yield from (*["undo"] * 4, *LOOK)
+    yield from (*["redo"] * 9, *LOOK_AND_REPORT, tank_of_a_thousand(8, 2, 20, 580), "redo", "counts")
+    yield "# Tanks: an id freed and entered again, and the eighth level below a tank"
+    yield from (*a_thousand(), tank_of_a_thousand(4, 1, 300, 0, 600, 300), withdraw(4), room(4, 1, 5), "undo")
+    yield from (tank_of_a_thousand(4, 1, 300, 300, 600, 300), *LOOK, "undo", "undo", "spaces", *["redo"] * 3)
+    yield from (*chain(4, 11, 6, 1), room(17, 16), *LOOK, mark(16, EXEMPT), mark(4, EXEMPT), mark(16, PLAIN))
+    yield from (mark(4, EXEMPT), room(18, 15, 0, DEDUCTED), tank_of_a_thousand(18, 1, 9, 0, 9, 9, EXEMPT), *LOOK)
+    yield "# Tanks: the 64th change and the 65th"
+    yield from (*a_thousand(), *[mark(1, PLAIN)] * 60, tank_of_a_thousand(4, 1, 300, 0, 600, 300), "counts")
+    yield from (tank_of_a_thousand(5, 2, 300, 0, 600, 300), "counts", *["undo"] * 2, *LOOK, *["redo"] * 3, *LOOK)
+    yield from (*["undo"] * 65, *LOOK, *["redo"] * 64, *LOOK)
+
+
+def a_meeting(rng: Random, tonnage_length: int, under_deck_length: int) -> tuple[int, int]:
+    """A tank's length and fore end with which a station falls between two zones, if chance finds them; else any two.
+
+    The fore end is the end of a zone less a station's distance from it, where that is a whole number in the U.
+    """
+    ends = m.zone_ends(under_deck_length, m.parts_of_under_deck(tonnage_length, under_deck_length))[:-1]
+    for _ in range(40):
+        length = rng.randint(1, one_of(rng, (under_deck_length, under_deck_length // 2, under_deck_length // 4)))
+        number = m.parts_of_tank(tonnage_length, under_deck_length, length)
+        fore = ends[rng.randrange(len(ends))] - rng.randint(0, number) * Fraction(length, number)
+        if fore.denominator == 1 and 0 <= fore <= under_deck_length - length:
+            return length, int(fore)
+    return length, rng.randint(0, under_deck_length - length)
+
+
+def off_by(tonnage_length: int, under_deck_length: int, length: int, fore: int) -> Fraction:
+    """How far the station of a tank that lies nearest to the end of a zone, but not just there, lies from it."""
+    ends = m.zone_ends(under_deck_length, m.parts_of_under_deck(tonnage_length, under_deck_length))[:-1]
+    stations = m.stations_of_tank(fore, length, m.parts_of_tank(tonnage_length, under_deck_length, length))
+    return min(abs(station - end) for station in stations for end in ends if station != end)
+
+
+def a_near_miss(rng: Random, tonnage_length: int, under_deck_length: int) -> tuple[int, int]:
+    """A tank's length and fore end, of some at random, with which a station lies nearest to the end of a zone."""
+    lengths = [rng.randint(under_deck_length // 4, under_deck_length) for _ in range(40)]
+    tanks = [(length, rng.randint(0, under_deck_length - length)) for length in lengths]
+    return min(tanks, key=lambda ends: off_by(tonnage_length, under_deck_length, *ends))
+
+
+EDGES_OF_PARTS = (
+    100, 2000, 2001, 3999, 4000, 4001, 5000, 5001, 10_000, 10_001, 15_000, 15_001, 20_000, 20_001, 25_000, 25_001,
+    150_000,
+)
+
+
+def where_to_measure(rng: Random, session: Session) -> Lines:
+    """Zones asked for at each end of each range, alone and together, and many whose stations fall between two zones."""
+    yield "# Zones: ranges, and a tank that passes an end"
+    for one in (0, 1, 99, 100, 101, 149_999, 150_000, 150_001, *BEYOND_32):
+        yield from (zones(one, 4800, 800, 0), zones(4800, one, 1, 0), zones(4800, one, 100, 0), zones(one, one, 1, 99))
+        yield from (zones(150_000, 150_000, one, 0), zones(150_000, 150_000, 1, one))
+        yield from (zones(4800, 4800, one, one), zones(one, 100, one, one))
+    for length, fore in (
+        (4800, 0), (4800, 1), (4801, 0), (4799, 1), (1, 4799), (1, 4800), (1, 4801), (0, 4800), (0, 4801)
+    ):
+        yield from (zones(4800, 4800, length, fore), zones(4801, 4800, length, fore), zones(99, 4800, length, fore))
+    yield from (zones(4800, 4800, 2**32 - 1, 2**32 - 1), zones(4800, 4800, 2**32 - 1, 1))
+    yield zones(4800, 4800, 1, 2**32 - 1)
+    yield from (zones(4800, 4800, 2**32 + 1, 0), zones(4800, 2**32 + 4800, 1, 0), zones(2**32 + 4800, 4800, 1, 0))
+    yield from (zones(4800, 4800, 1, 2**32), zones(4800, 4800, 150_000, 150_000), zones(4800, 4800, 150_001, 150_000))
+    yield "# Zones: every number of parts, of the whole and of step parts, also of one longer than the tonnage length"
+    for length in EDGES_OF_PARTS:
+        for tonnage_length in (length, 150_000 - length, 100):
+            yield zones(tonnage_length, length, length, 0)
+        for tonnage_length in (length, 101):
+            yield zones(tonnage_length, length, *a_meeting(rng, tonnage_length, length))
+    yield "# Zones: stations between two zones"
+    for number in range(60):
+        length = one_of(rng, (rng.randint(100, 6000), 36 * rng.randint(3, 300), 48 * rng.randint(3, 700)))
+        tonnage_length = one_of(rng, (length, length, length + 100, 4800))
+        own_length, fore = a_meeting(rng, tonnage_length, length)
+        yield zones(tonnage_length, length, own_length, fore)
+        if number % 3 == 0:
+            yield zones(tonnage_length, length, own_length, fore + 1)
+    yield "# Zones: stations a fraction of a hundredth off"
+    for length in (599, 1199, 3001, 4799, 9_998, 24_999, 149_999):
+        yield zones(length, length, *a_near_miss(rng, length, length))
+        yield zones(100, length, *a_near_miss(rng, 100, length))
+    yield "counts"
+
+
 # Lines that are no calls, for each remark
 MALFORMED = (
     "", "#", "# open 1200", " ", " undo", "Undo", "UNDO", "undo\t", "undo\r", "open\t1200", "close", "reports 0", "0",
@@ -669,6 +993,17 @@ MALFORMED = (
     "read 000", "read 0g", "read g0", "read 0A", "read FF", "read 0x", "read 0x00", "read --", "read -0", "read 0-",
     "before", "before 0", "before 00", "before 0 00 00", "before 0 00 ", "before  00", "before x 00", "before - 00", "before 00 ",
     "before 0 0", "before 0 0g", "before 0 --", "before 18446744073709551616 00", "before 18446744073709551616 0g",
+    # tanks and zones
+    "tank", "tank 9 1 0 10 0 5", "tank 9 1 0 10 0 5 5 5", "tank 9 1 0 10 0 5 5 ", "Tank 9 1 0 10 0 5 5",
+    "tank x 1 0 10 0 5 5", "tank 9 - 0 10 0 5 5", "tank 9 1 x 10 0 5 5", "tank 9 1 0 x 0 5 5", "tank 9 1 0 10 -1 5 5",
+    "tank 9 1 0 10 - 5 5", "tank 9 1 0 10 0 5, 5", "tank 9 1 0 10 0 5 x", "tank 9 1 0 10  5 5",
+    "tank 9 1 0 10 18446744073709551616 5 5", "tank 9 1 0 10 0 18446744073709551616 5",
+    "tank 9 1 0 10 0 5 18446744073709551616",
+    "tank 9 1 0 10 0 5 " + "," * MOST_NUMBERS,
+    "zones", "zones 4800 4800 800", "zones 4800 4800 800 0 0", "zones 4800 4800 800 0 ", "zone 4800 4800 800 0",
+    "zones x 4800 800 0", "zones 4800 - 800 0", "zones 4800 4800 8,0 0", "zones 4800 4800 800 -",
+    "zones 4800 4800 800 -1",
+    "zones 18446744073709551616 4800 800 0", "zones 4800 4800 800 18446744073709551616",
     "before x 0", "read ,", "read 00,00", "read +0", "read 0.", "read 00\r", "read 0\t", "read 0:", "read `0", "read /0", "read @a",
 )
 
@@ -683,7 +1018,7 @@ def malformed(rng: Random, session: Session) -> Lines:
 
 # Calls at random
 
-TONNAGE_LENGTHS = (1200, 1200, 1200, 600, 2000, 3000, 4800, 100, 1999, 5001)
+TONNAGE_LENGTHS = (1200, 1200, 1200, 600, 2000, 3000, 4800, 100, 1999, 5001, 1800, 3600, 7200)
 OFF_IDS = (0, 10_000, 65_535, 65_536, 65_537, 2**64 - 1)
 SIDES = ((1000, 1000), (500, 2000), (100, 10_000), (2500, 400), (20_000, 50))  # a length of n between them has n
 
@@ -757,7 +1092,8 @@ def a_length(rng: Random, sheet: Sheet, kind: int) -> int:
     rest = whole - s.under_deck_length(sheet.spaces)
     lengths = [length for length in (rest, rest, rest + 1, rest - 100, 600, 100) if length >= 100]
     if rest > 300:
-        lengths += [rng.randint(100, min(rest - 100, 2000))] * 4
+        lengths += [rng.randint(100, min(rest - 100, 2000))] * 2
+        lengths += [36 * rng.randint(3, (rest - 100) // 36)] * 4  # its thirds of the interval are whole hundredths
     return one_of(rng, lengths)
 
 
@@ -779,7 +1115,8 @@ def entering(rng: Random, sheet: Sheet, most: int) -> Lines:
         length, heights, breadths = of_tonnage(rng, rng.randint(0, 30))
     else:
         length = a_length(rng, sheet, kind)
-        space = figures.asked(rng, kind, sheet.length or 1200, length, one_of(rng, (99, 999, 1999)))
+        middle = one_of(rng, (1600, 1601, 1900)) if kind == U and rng.randrange(3) == 0 else None
+        space = figures.asked(rng, kind, sheet.length or 1200, length, one_of(rng, (99, 999, 1999)), middle)
         heights, breadths = list(space.heights), list(space.breadths)
     fault = rng.randrange(60)
     if fault == 0:
@@ -791,6 +1128,99 @@ def entering(rng: Random, sheet: Sheet, most: int) -> Lines:
     elif fault == 3:
         kind = one_of(rng, (0, 6, *BEYOND_8))
     yield enter(id, within, kind, a_standing(rng, kind), length, heights, breadths)
+
+
+def ends_of_tank(rng: Random, tonnage_length: int, under_deck_length: int) -> tuple[int, int]:
+    """A tank's length and fore end in a U, often with stations between two zones or a hundredth off that."""
+    length = rng.randint(1, under_deck_length)
+    thirds = m.THIRDS * m.parts_of_under_deck(tonnage_length, under_deck_length)
+    choice = rng.randrange(9)
+    if choice == 0:
+        return under_deck_length, 0
+    if choice == 1:
+        return length, one_of(rng, (0, under_deck_length - length))
+    if choice == 2:
+        return length, rng.randint(0, under_deck_length - length)
+    if choice < 6 and under_deck_length % thirds == 0:  # in whole thirds of the interval, for several at once
+        own = one_of(rng, [one for one in (2, 4, 6, 8, *range(12, thirds, 6)) if one <= thirds])
+        fore = one_of(rng, [one for one in range(thirds - own + 1) if one % 6 in (1, 5)] or [0])
+        third = under_deck_length // thirds
+        return own * third, fore * third
+    length, fore = a_meeting(rng, tonnage_length, under_deck_length)
+    return length, min(max(fore + one_of(rng, (0, 0, 0, 0, -1, 1)), 0), under_deck_length - length)
+
+
+def sections_that_fit(rng: Random, sheet: Sheet, within: int, length: int, fore: int) -> tuple[list[int], list[int]]:
+    """Depths and breadths as asked, as large as the U has tonnage left for them; now and then larger."""
+    under_deck = s.find(sheet.spaces, within)
+    rest = under_deck.tonnage - s.tons(s.rooms(sheet.spaces, within))
+    count, row = sections(sheet, within, length, fore)
+    for most in (1999, 499, 99, 9):
+        depths, breadths = some(rng, count, 0, most), some(rng, count * row, 0, most)
+        volume = m.volume_of_tank(sheet.length, under_deck.length, row - 1, length, fore, depths, breadths)
+        if m.tonnage(volume) <= rest or rng.randrange(12) == 0:
+            break
+    return depths, breadths
+
+
+def entered_anew(rng: Random, sheet: Sheet) -> Lines:
+    """A U without m in which no room stands, withdrawn and entered anew."""
+    for space in sheet.spaces:
+        if space.kind == U and space.m == s.NO_M and not s.rooms(sheet.spaces, space.id):
+            new = figures.asked(rng, U, sheet.length, space.length, 999, one_of(rng, (900, 1900)))
+            yield from (withdraw(space.id), enter(space.id, 0, U, PLAIN, new.length, new.heights, new.breadths))
+            return
+
+
+def tank_elsewhere(rng: Random, sheet: Sheet, most: int) -> Lines:
+    """A tank in any space or in none that stands."""
+    id = new_id(rng, sheet, most)
+    within = one_of(rng, (id, 0, an_id(rng, sheet, most), an_id(rng, sheet, most), one_of(rng, OFF_IDS)))
+    depths, breadths = some(rng, 3, 0, 99), some(rng, 15, 0, 99)
+    yield tank(id, within, a_standing(rng, R), rng.randint(1, 600), rng.randint(0, 9), depths, breadths)
+
+
+def tanking(rng: Random, sheet: Sheet, most: int) -> Lines:
+    """A tank, mostly as it should be in a U with m; where there is no such U, one without may be entered anew."""
+    with_m = [space for space in sheet.spaces if space.m]
+    without_m = [space for space in sheet.spaces if space.kind == U and not space.m]
+    if rng.randrange(25 if with_m or without_m else 3) == 0:
+        yield from tank_elsewhere(rng, sheet, most)
+    elif with_m and not (without_m and rng.randrange(5) == 0):
+        yield from tank_within(rng, sheet, most, with_m[rng.randrange(len(with_m))])
+    elif without_m and rng.randrange(3) == 0:
+        yield from tank_within(rng, sheet, most, without_m[rng.randrange(len(without_m))])
+    elif rng.randrange(3):
+        yield from entered_anew(rng, sheet)
+
+
+def tank_within(rng: Random, sheet: Sheet, most: int, own: s.Space) -> Lines:
+    """A tank in this U, with a fault now and then."""
+    id, standing = new_id(rng, sheet, most), a_standing(rng, R)
+    length, fore = ends_of_tank(rng, sheet.length, own.length)
+    depths, breadths = sections_that_fit(rng, sheet, own.id, length, fore)
+    fault = rng.randrange(40)
+    if fault == 0:
+        depths = with_fault(rng, depths, 20_001)
+    elif fault == 1:
+        breadths = with_fault(rng, breadths, 30_001)
+    elif fault == 2:
+        length = one_of(rng, (0, 150_001, own.length - fore + 1, own.length + 1, *BEYOND_32))
+    elif fault == 3:
+        fore = one_of(rng, (150_001, own.length - length + 1, own.length, fore + 1, *BEYOND_32))
+    elif fault == 4:
+        depths, breadths = [*depths, 9], [*breadths, *breadths[:len(breadths) // len(depths)]]
+    yield tank(id, own.id, standing, length, fore, depths, breadths)
+
+
+def zoning(rng: Random, sheet: Sheet, most: int) -> Lines:
+    """Where to measure a tank, in a U of any length, in range nearly always."""
+    length = rng.randint(100, one_of(rng, (2000, 6000, 30_000, 150_000)))
+    tonnage_length = one_of(rng, (length, length, length + 1, 100, rng.randint(100, 150_000)))
+    asked = [tonnage_length, length, *ends_of_tank(rng, tonnage_length, length)]
+    if rng.randrange(8) == 0:
+        asked[rng.randrange(4)] += one_of(rng, (1, 100, 150_000, *BEYOND_32))
+    yield call("zones", *(min(one, 2**64 - 1) for one in asked))
 
 
 def withdrawing(rng: Random, sheet: Sheet, most: int) -> Lines:
@@ -862,10 +1292,10 @@ def saying_nothing(rng: Random, sheet: Sheet, most: int) -> Lines:
 
 
 MOVES: tuple[Callable[[Random, Sheet, int], Lines], ...] = (
-    (entering,) * 18 + (withdrawing,) * 3 + (marking,) * 6 + (undoing,) * 2 + (redoing,) + (reporting,) * 3
-    + (writing,) + (rereading,) + (looking,) * 4 + (saying_nothing,)
+    (entering,) * 16 + (tanking,) * 5 + (withdrawing,) * 3 + (marking,) * 6 + (undoing,) * 2 + (redoing,)
+    + (reporting,) * 3 + (writing,) + (rereading,) + (looking,) * 4 + (zoning,) + (saying_nothing,)
 )
-BURST = (entering,) * 9 + (marking, looking)
+BURST = (entering,) * 8 + (tanking,) * 2 + (marking, looking)
 
 
 def walk(rng: Random, session: Session, most: int, moves: int) -> Lines:
@@ -875,12 +1305,28 @@ def walk(rng: Random, session: Session, most: int, moves: int) -> Lines:
         yield from choices[rng.randrange(len(choices))](rng, session.sheet, most)
 
 
+TANKS = (tanking,) * 10 + (entering, marking, withdrawing, undoing, redoing, reporting, looking, zoning)
+
+
+def tank_walk(rng: Random, session: Session) -> Lines:
+    """Mostly tanks, on a sheet of large U whose thirds of the interval are mostly whole hundredths."""
+    lengths = [36 * rng.randint(3, one_of(rng, (30, 120, 240))) for _ in range(one_of(rng, (1, 1, 2, 3)))]
+    yield f"open {sum(lengths)}"
+    for id, length in enumerate(lengths, start=1):
+        yield divided(id, U, sum(lengths), length, one_of(rng, (1600, 1601)), 2000)
+    for _ in range(rng.randint(15, 40)):
+        yield from TANKS[rng.randrange(len(TANKS))](rng, session.sheet, 30)
+    yield from LOOK_AND_REPORT
+
+
 def walks(rng: Random, session: Session) -> Lines:
     """Walks without end, each on a sheet of its own, now and then with calls on a sheet not open before it."""
     while True:
         if rng.randrange(4) == 0:
             yield f"open {one_of(rng, (99, 150_001, *BEYOND_32))}"
             yield from walk(rng, session, 9, 8)
+        if rng.randrange(2) == 0:
+            yield from tank_walk(rng, session)
         yield f"open {one_of(rng, TONNAGE_LENGTHS)}"
         yield from walk(rng, session, one_of(rng, (8, 30, 30, 300, 9_999)), rng.randint(60, 260))
         yield from LOOK_AND_REPORT
@@ -901,7 +1347,8 @@ def crowded(rng: Random, session: Session) -> Lines:
 SECTIONS: tuple[Section, ...] = (
     not_open, openings, paper_sheet, hatchways, ballast, reports, kinds_by_standings, all_at_once, ranges, levels,
     sums_of_rooms, sums_of_lengths, two_hundred, sixty_four, redo_after, order_of_entry, ids_again, not_plain,
-    writes, places_in_a_buffer, written_and_read, changes_after_a_read, generated_files, malformed, crowded,
+    writes, places_in_a_buffer, written_and_read, changes_after_a_read, generated_files, tank_figures, tank_refusals,
+    tank_ranges, tank_sections, tanks_and_files, tanks_as_rooms, where_to_measure, malformed, crowded,
 )
 SEEDS = range(69_107, 69_117)  # of the walks behind the sections
 CALLS_OF_A_WALK = 150

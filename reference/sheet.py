@@ -2,8 +2,9 @@
 
 A sheet is a value that never changes: every call answers its number, its values and the sheet after it. What can be
 undone and redone is kept as whole copies of the standing spaces, one for each open change.
-Quoted sentences are the paper's. Of all the numbers of refusal that apply to a call the lowest is given; one that
-can't be judged (a level in an enclosing space that doesn't stand, say) counts as not applying.
+Quoted sentences are the paper's, those on tanks the request T-01's. Of all the numbers of refusal that apply to a call
+the lowest is given; one that can't be judged (a level in an enclosing space that doesn't stand, say) counts as not
+applying.
 """
 
 from dataclasses import dataclass, replace
@@ -25,6 +26,7 @@ ENCLOSES = 11  # withdrawal of a space that encloses a room
 NOTHING_OPEN = 12  # nothing undoable, or nothing redoable
 LENGTHS_SHORT = 13  # U lengths don't add up to the tonnage length
 NOT_JUSTIFIED = 14  # ballast over 30%, not justified
+WITHOUT_M = 29  # tank in a U that has no m; 'after all the others'
 
 # Standings, and 'which kind may have which standing is a table of five rows by four columns'.
 PLAIN, EXEMPT, BALLAST, DEDUCTED = 0, 1, 2, 3
@@ -40,6 +42,7 @@ MAY_HAVE = {
 }
 
 NOT_ENCLOSED = 0  # the enclosing id of a U, B, S or H
+NO_M = 0  # of every space but a U entered from offsets
 IDS = range(1, 10_000)
 NOT_MARKED, JUSTIFIED = 0, 1
 MARKS = (NOT_MARKED, JUSTIFIED)
@@ -50,7 +53,7 @@ MOST_UNDOABLE = 64
 
 @dataclass(frozen=True)
 class Space:
-    """A standing space, or a new one that is judged."""
+    """A standing space, or a new one that is judged: what its record holds, and m, which 'the file doesn't hold'."""
 
     id: int
     within: int
@@ -58,6 +61,7 @@ class Space:
     standing: int
     tonnage: int
     length: int
+    m: int = NO_M
 
 
 State = tuple[Space, ...]  # the standing spaces in order of entry
@@ -166,6 +170,27 @@ def under_deck_length(spaces: State) -> int:
     return sum(space.length for space in spaces if space.kind == U)
 
 
+# The U of a tank
+
+def named_under_deck(spaces: State, within: int) -> Space | None:
+    """'The tank names its U': the standing space with the enclosing id, where it is a U."""
+    upper = find(spaces, within)
+    return upper if upper is not None and upper.kind == U else None
+
+
+def has_m(under_deck: Space) -> bool:
+    """4 or 6; on a sheet that no call handed back, any other is none."""
+    return under_deck.m in m.PARTS_OF_DEPTH
+
+
+def measuring_under_deck(spaces: State, within: int, length: int, fore: int) -> Space | None:
+    """The U that a tank can be measured in: 'a standing U with m whose ends the tank doesn't pass'."""
+    under_deck = named_under_deck(spaces, within)
+    if under_deck is None or not has_m(under_deck) or m.passes_an_end(under_deck.length, length, fore):
+        return None
+    return under_deck
+
+
 # What each number says, in the order of the table
 
 def out_of_range(
@@ -222,6 +247,37 @@ def lengths_would_pass(sheet: Sheet, new: Space) -> bool:
     return new.kind == U and under_deck_length(sheet.spaces) + new.length > sheet.length
 
 
+def tank_wrong_number(
+    sheet: Sheet, within: int, length: int, fore: int, depths: Sequence[int], breadths: Sequence[int]
+) -> bool:
+    """3 for a tank: 'judged only in a standing U with m whose ends the tank doesn't pass'."""
+    under_deck = measuring_under_deck(sheet.spaces, within, length, fore)
+    return under_deck is not None and m.tank_wrong_number(
+        sheet.length, under_deck.length, under_deck.m, length, fore, depths, breadths
+    )
+
+
+def in_other_than_under_deck(spaces: State, within: int) -> bool:
+    """6 for a tank: 'also if the enclosing space isn't a U'."""
+    return find(spaces, within) is not None and named_under_deck(spaces, within) is None
+
+
+def tank_would_pass(spaces: State, new: Space, fore: int) -> bool:
+    """9 for a tank: 'also if the tank passes an end of its U'; 'by the tank's tonnage' only where 3 is judged."""
+    under_deck = named_under_deck(spaces, new.within)
+    if under_deck is None:
+        return False
+    if m.passes_an_end(under_deck.length, new.length, fore):
+        return True
+    return measuring_under_deck(spaces, new.within, new.length, fore) is not None and rooms_would_pass(spaces, new)
+
+
+def without_m(spaces: State, within: int) -> bool:
+    """29: 'if that U has no m'."""
+    under_deck = named_under_deck(spaces, within)
+    return under_deck is not None and not has_m(under_deck)
+
+
 def no_place(spaces: State) -> bool:
     """10: 'entry where 200 spaces stand'."""
     return len(spaces) >= PLACES
@@ -274,6 +330,26 @@ def numbers_of_entry(sheet: Sheet, new: Space, heights: Sequence[int], breadths:
         SHEET_NOT_OPEN: not sheet.is_open,
         OUT_OF_RANGE: out_of_range(sheet, new.kind, new.standing, new.length, heights, breadths),
         WRONG_NUMBER: wrong_number(sheet, new.kind, new.length, heights, breadths),
+    })
+
+
+def numbers_of_tank(
+    sheet: Sheet, new: Space, fore: int, depths: Sequence[int], breadths: Sequence[int]
+) -> set[int]:
+    """Those from 1 to 10, and 29, for a tank with all its measures: a room directly inside the U that it names."""
+    spaces = sheet.spaces
+    return applying({
+        SHEET_NOT_OPEN: not sheet.is_open,
+        OUT_OF_RANGE: new.standing not in STANDINGS or m.tank_out_of_range(new.length, fore, depths, breadths),
+        WRONG_NUMBER: tank_wrong_number(sheet, new.within, new.length, fore, depths, breadths),
+        NEW_ID: new_id_refused(spaces, new.id),
+        NOT_STANDING: enclosing_not_standing(spaces, new),
+        CANNOT_TAKE: in_other_than_under_deck(spaces, new.within),  # a room can take every standing
+        TOO_DEEP: too_deep(spaces, new),
+        NOT_PLAIN_TWICE: not_plain_twice(new, above(spaces, new)),
+        WOULD_PASS: tank_would_pass(spaces, new, fore),
+        NO_PLACE: no_place(spaces),
+        WITHOUT_M: without_m(spaces, new.within),
     })
 
 
@@ -337,9 +413,10 @@ def new_space(
     sheet: Sheet, id: int, within: int, kind: int, standing: int, length: int, heights: Sequence[int],
     breadths: Sequence[int],
 ) -> Space:
-    """A space as it would be recorded. One that can't be measured has tonnage 0, with which rooms pass nothing."""
-    _, tonnage = m.measure(kind, sheet.length, length, heights, breadths)
-    return Space(id, within if kind == R else NOT_ENCLOSED, kind, standing, tonnage, length)
+    """A space as it would stand. One that can't be measured has tonnage 0, with which rooms pass nothing, and no m."""
+    number, tonnage = m.measure(kind, sheet.length, length, heights, breadths)
+    own_m = m.parts_of_depth(m.middle_depth(heights)) if kind == U and not number else NO_M
+    return Space(id, within if kind == R else NOT_ENCLOSED, kind, standing, tonnage, length, own_m)
 
 
 def enter(
@@ -349,6 +426,34 @@ def enter(
     """A new space comes last in order, whatever stood before; the enclosing id is read only for a room."""
     new = new_space(sheet, id, within, kind, standing, length, heights, breadths)
     number = lowest(numbers_of_entry(sheet, new, heights, breadths))
+    return number, sheet if number else changed(sheet, (*sheet.spaces, new))
+
+
+def new_tank(
+    sheet: Sheet, id: int, within: int, standing: int, length: int, fore: int, depths: Sequence[int],
+    breadths: Sequence[int],
+) -> Space:
+    """'The result is a room directly inside that U.' One that can't be measured has tonnage 0."""
+    under_deck = measuring_under_deck(sheet.spaces, within, length, fore)
+    tonnage = 0
+    if not (
+        under_deck is None
+        or m.tank_out_of_range(length, fore, depths, breadths)
+        or tank_wrong_number(sheet, within, length, fore, depths, breadths)
+    ):
+        tonnage = m.tonnage(m.volume_of_tank(
+            sheet.length, under_deck.length, under_deck.m, length, fore, depths, breadths
+        ))
+    return Space(id, within, R, standing, tonnage, length)
+
+
+def enter_tank(
+    sheet: Sheet, id: int, within: int, standing: int, length: int, fore: int, depths: Sequence[int],
+    breadths: Sequence[int],
+) -> tuple[int, Sheet]:
+    """A tank that follows the hull, entered as any room is."""
+    new = new_tank(sheet, id, within, standing, length, fore, depths, breadths)
+    number = lowest(numbers_of_tank(sheet, new, fore, depths, breadths))
     return number, sheet if number else changed(sheet, (*sheet.spaces, new))
 
 
@@ -398,13 +503,18 @@ def report(sheet: Sheet, justified: int) -> tuple[int, int, int, Sheet]:
 
 # Recorded spaces
 
+def recorded(spaces: Iterable[Space]) -> State:
+    """'All that their records hold': m is gone. 'A U that came from a file takes no tank until it is entered anew.'"""
+    return tuple(replace(space, m=NO_M) for space in spaces)
+
+
 def enter_recorded(sheet: Sheet, space: Space) -> tuple[int, Sheet]:
     """A recorded space judged as an entry with its recorded tonnage and length: 4 to 10; it is no open change.
 
     That its numbers are in range and that a U, B, S or H has no enclosing id is for the reader to judge.
     """
     number = lowest(numbers_of_new(sheet, space))
-    return number, sheet if number else replace(sheet, spaces=(*sheet.spaces, space))
+    return number, sheet if number else replace(sheet, spaces=(*sheet.spaces, *recorded([space])))
 
 
 def resume(length: int, spaces: Iterable[Space]) -> tuple[int, Sheet]:

@@ -28,7 +28,7 @@ too large before a filling that is no number.
 import sys
 from typing import Any, Callable
 
-from reference import dayfile, sheet as s
+from reference import dayfile, measure as m, sheet as s
 from reference.sheet import Sheet, Space
 
 UNKNOWN_CALL = "? unknown call"
@@ -85,7 +85,7 @@ def a_code(word: str) -> int:
 
 
 def a_measure(word: str) -> int:
-    """A length, depth, height or breadth."""
+    """A length, depth, height or breadth, or a tank's fore end."""
     return min(number(word), GREATEST_MEASURE)
 
 
@@ -133,8 +133,8 @@ Reader = Callable[[str], Any]  # of a word
 
 
 def of_space(space: Space) -> str:
-    """ID:WITHIN:KIND:STANDING:TONNAGE:LENGTH."""
-    values = (space.id, space.within, space.kind, space.standing, space.tonnage, space.length)
+    """ID:WITHIN:KIND:STANDING:TONNAGE:LENGTH:M."""
+    values = (space.id, space.within, space.kind, space.standing, space.tonnage, space.length, space.m)
     return ":".join(map(str, values))
 
 
@@ -146,6 +146,12 @@ def in_hex(file: bytes) -> str:
 def spaces(sheet: Sheet) -> Answer:
     """0 OPEN L COUNT SPACE SPACE ..."""
     return s.ACCEPTED, int(sheet.is_open), sheet.length, len(sheet.spaces), *map(of_space, sheet.spaces), sheet
+
+
+def zones(sheet: Sheet, tonnage_length: int, under_deck_length: int, length: int, fore: int) -> Answer:
+    """N PARTS LIST, with one number a section; refused, N 0 -. 'It needs no sheet, never answers 1.'"""
+    refusal, parts, stations = m.zones(tonnage_length, under_deck_length, length, fore)
+    return refusal, parts, ",".join(map(str, stations)) or "-", sheet
 
 
 def writef(sheet: Sheet, justified: int, at: int, size: int, fill: int) -> Answer:
@@ -162,6 +168,8 @@ def write(sheet: Sheet, justified: int, at: int, size: int) -> Answer:
 CALLS: dict[str, tuple[tuple[Reader, ...], Callable[..., Answer]]] = {
     "open": ((a_measure,), lambda sheet, length: s.open_sheet(length)),
     "enter": ((an_id, an_id, a_code, a_code, a_measure, measures, measures), s.enter),
+    "tank": ((an_id, an_id, a_code, a_measure, a_measure, measures, measures), s.enter_tank),
+    "zones": ((a_measure, a_measure, a_measure, a_measure), zones),
     "withdraw": ((an_id,), s.withdraw),
     "mark": ((an_id, a_code), s.mark),
     "undo": ((), s.undo),

@@ -551,7 +551,7 @@ class RoundTrips(OfFiles):
                     continue
                 written += 1
                 self.assertEqual((len(after), after[:4], after[4 + count:]), (len(buffer), buffer[:4], buffer[:5]))
-                resumed = Sheet(True, sheet.length, sheet.spaces)
+                resumed = Sheet(True, sheet.length, s.recorded(sheet.spaces))
                 self.assertEqual(f.read(after[:4 + count]), (0, 0, justified, 4, resumed))
         self.assertGreater(written, 150)
 
@@ -705,8 +705,8 @@ class Protocol(OfCalls):
 
     def test_read(self) -> None:
         self.asks(f"read {EXAMPLE.hex()}", "0 0 0 0")
-        self.asks("spaces", "0 1 4800 5 1:0:1:0:11521:4800 2:0:3:0:1280:1600 3:1:5:2:400:1000 4:2:5:3:320:800 "
-                            "5:0:4:0:100:500")
+        self.asks("spaces", "0 1 4800 5 1:0:1:0:11521:4800:0 2:0:3:0:1280:1600:0 3:1:5:2:400:1000:0 "
+                            "4:2:5:3:320:800:0 5:0:4:0:100:500:0")
         self.asks("counts", "0 0 0")
         self.asks("report 0", "0 12439 12119")
         self.asks(f"read abcdef{with_bytes(EXAMPLE, (MARK, 1)).hex()}", "0 0 1 3")

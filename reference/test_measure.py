@@ -209,6 +209,165 @@ class Readings(unittest.TestCase):
         self.assertEqual(m.parts(B, 4800, 12000), 6)
 
 
+class Tanks(unittest.TestCase):
+    """Tanks that follow the hull: zones, stations between two zones, sections and the volume."""
+
+    def thirds(self, parts: int) -> list[Fraction]:
+        """Where the zones of a U end, in thirds of its interval."""
+        return [end / Fraction(4800, 3 * parts) for end in m.zone_ends(4800, parts)]
+
+    def test_zone_ends(self) -> None:
+        """Multipliers 1 4 2 4 2 4 1 for 6 parts, added up."""
+        self.assertEqual(self.thirds(2), [1, 5, 6])
+        self.assertEqual(self.thirds(4), [1, 5, 7, 11, 12])
+        self.assertEqual(self.thirds(6), [1, 5, 7, 11, 13, 17, 18])
+        self.assertEqual(self.thirds(8), [1, 5, 7, 11, 13, 17, 19, 23, 24])
+        self.assertEqual(m.zone_ends(1800, 6), [100, 500, 700, 1100, 1300, 1700, 1800])
+        self.assertEqual(m.zone_ends(1200, 6)[:3], [Fraction(200, 3), Fraction(1000, 3), Fraction(1400, 3)])
+
+    def test_zones_at(self) -> None:
+        ends = m.zone_ends(1800, 6)
+        for point, numbers in (
+            (0, [1]), (99, [1]), (100, [1, 2]), (Fraction(301, 3), [2]), (101, [2]), (300, [2]), (500, [2, 3]),
+            (Fraction(2099, 3), [3]), (700, [3, 4]), (1699, [6]), (1700, [6, 7]), (1701, [7]), (1799, [7]), (1800, [7]),
+        ):
+            self.assertEqual(m.zones_at(ends, Fraction(point)), numbers)
+
+    def test_zones_fill_the_length(self) -> None:
+        """'The zones fill the length with no gap'; a station lies in the zone of its number, any point in one or two."""
+        rng = Random(1)
+        for number in m.EVEN_NUMBERS:
+            for length in (100, 101, 4800, rng.randint(100, 150_000)):
+                ends = m.zone_ends(length, number)
+                self.assertEqual((len(ends), ends[-1]), (number + 1, length))
+                self.assertEqual(ends, sorted(set(ends)))
+                for station in range(number + 1):
+                    self.assertEqual(m.zones_at(ends, station * Fraction(length, number)), [station + 1])
+                for _ in range(20):
+                    point = Fraction(rng.randint(0, 48 * length), 48)
+                    found = m.zones_at(ends, point)
+                    self.assertEqual(found, [found[0], found[0] + 1] if point in ends[:-1] else [found[0]])
+
+    def test_parts(self) -> None:
+        """The S rule with the U's interval: 300 in a U of 1800, 150 in a step part of 300, 750 in one of 3000."""
+        for tonnage_length, under_deck, length, parts in (
+            (1800, 1800, 1800, 6), (1800, 1800, 600, 2), (1800, 1800, 799, 2), (1800, 1800, 800, 4), (1800, 1800, 1, 2),
+            (1800, 1800, 1439, 4), (1800, 1800, 1440, 6), (1800, 300, 300, 2), (1800, 300, 100, 2),
+            (4800, 3000, 3000, 4), (4800, 3000, 2000, 4), (4800, 3000, 1999, 2), (4800, 2000, 2000, 2),
+            (2000, 2000, 2000, 6),
+        ):
+            self.assertEqual(m.parts_of_tank(tonnage_length, under_deck, length), parts, msg=(under_deck, length))
+        self.assertEqual(m.parts_of_superstructure(4500, 2000), m.parts_of_tank(4500, 4500, 2000))
+
+    def test_the_whole_has_the_parts_of_its_under_deck(self) -> None:
+        for length in (100, 2000, 2001, 3999, 4000, 5001, 10_001, 25_001, 150_000):
+            for tonnage_length in (length, 150_000, 101):
+                parts = m.parts_of_under_deck(tonnage_length, length)
+                self.assertEqual(m.zones(tonnage_length, length, length, 0), (0, parts, list(range(1, parts + 2))))
+
+    def test_just_between_two_zones_and_a_hundredth_off(self) -> None:
+        """A U of 1800, a tank of 600 in two parts: stations at 100, 400, 700."""
+        self.assertEqual(m.stations_of_tank(100, 600, 2), [100, 400, 700])
+        self.assertEqual(m.zones_of_stations(1800, 1800, 600, 100), [[1, 2], [2], [3, 4]])
+        self.assertEqual(m.zones(1800, 1800, 600, 100), (0, 2, [1, 2, 2, 3, 4]))
+        self.assertEqual(m.zones(1800, 1800, 600, 99), (0, 2, [1, 2, 3]))
+        self.assertEqual(m.zones(1800, 1800, 600, 101), (0, 2, [2, 2, 4]))
+        self.assertEqual([m.sections_of_tank(1800, 1800, 600, fore) for fore in (99, 100, 101)], [3, 5, 3])
+
+    def test_several_boundaries(self) -> None:
+        """A tie of 2 and 4 parts takes 4: stations at 500, 700, 900, 1100, 1300, of which four are between zones."""
+        self.assertEqual(m.zones(1800, 1800, 800, 500), (0, 4, [2, 3, 3, 4, 4, 4, 5, 5, 6]))
+        self.assertEqual(m.zones(1800, 1800, 800, 501), (0, 4, [3, 4, 4, 5, 6]))
+        self.assertEqual(m.zones(48_000, 48_000, 42_000, 5000)[1], 14)
+        self.assertEqual(m.sections_of_tank(48_000, 48_000, 42_000, 5000), 15 + 8)
+
+    def test_ends_that_are_no_whole_hundredths(self) -> None:
+        """A U of 1200 has thirds of 66 2/3; a tank of 1000 in six parts has a station at 333 1/3, just five thirds."""
+        self.assertEqual(m.zones(1200, 1200, 1000, 0), (0, 6, [1, 2, 2, 3, 4, 4, 5, 6]))
+        self.assertEqual(m.zones(1200, 1200, 1000, 1), (0, 6, [1, 2, 3, 4, 4, 5, 6]))
+        self.assertEqual(m.zones(1200, 1200, 999, 0), (0, 6, [1, 2, 2, 4, 4, 5, 6]))
+        self.assertEqual(m.zones(1200, 1200, 1001, 0), (0, 6, [1, 2, 3, 4, 4, 5, 6]))
+
+    def test_volume(self) -> None:
+        """Thirds of 1 ft in length and depth; sections of 120 and 60 square feet. 720 is 120 + 4 x 120 + 120."""
+        full, half = [1000] * 5, [500] * 5
+        for depths, rows, tonnage in (
+            ([1200] * 5, [full] * 5, 720), ([1200, 600, 1200, 600, 1200], [full] * 5, 720),
+            ([600, 1200, 1200, 1200, 600], [full] * 5, 720), ([1200] * 5, [half, full, half, full, half], 480),
+            ([1200] * 5, [half, half, full, half, half], 600), ([0, 0, 1200, 600, 0], [full] * 5, 540),
+        ):
+            volume = m.volume_of_tank(1800, 1800, 4, 600, 100, depths, sum(rows, []))
+            self.assertEqual(m.tonnage(volume), tonnage)
+
+    def test_the_larger_area_and_not_the_deeper_or_broader(self) -> None:
+        """2 ft by 10 ft is less than 1 ft by 21 ft, and breadths have their multipliers."""
+        breadths = [1000] * 5 + [2100] * 5 + [9, 0, 0, 0, 9] + [0, 9, 0, 0, 0]
+        areas = m.areas_of_sections(4, [2400, 1200, 1200, 1200], breadths)
+        self.assertEqual(areas, [240, 252, Fraction(18, 100), Fraction(36, 100)])
+        self.assertEqual(m.areas_of_tank([[1, 2], [2, 3]], areas), [252, Fraction(36, 100)])
+        self.assertEqual(m.areas_of_tank([[1], [2], [3, 4]], areas), [240, 252, Fraction(36, 100)])
+        self.assertEqual(m.areas_of_tank([[1, 2]], [Fraction(7), Fraction(7)]), [7])
+
+    def test_the_whole_box(self) -> None:
+        space = uniform(U, 4800, 4800, 1200, 2000)
+        volume = m.volume_of_tank(4800, 4800, 4, 4800, 0, space.heights, space.breadths)
+        self.assertEqual((m.tonnage(volume), m.measure(*space)), (11521, (0, 11521)))
+
+    def test_the_whole_is_its_under_deck(self) -> None:
+        """A tank with its U's ends and offsets has its tonnage, whatever they are."""
+        rng = Random(2)
+        for _ in range(60):
+            tonnage_length, length = figures.lengths_with(rng, U, rng.choice(list(m.EVEN_NUMBERS)))
+            space = figures.asked(rng, U, tonnage_length, length, 2500)
+            own_m = m.parts_of_depth(m.middle_depth(space.heights))
+            tank = (tonnage_length, length, own_m, length, 0, space.heights, space.breadths)
+            self.assertFalse(m.tank_wrong_number(*tank))
+            self.assertEqual((0, m.tonnage(m.volume_of_tank(*tank))), m.measure(*space))
+
+    def test_ranges_and_ends_of_zones(self) -> None:
+        for number, asked in (
+            (0, (100, 100, 1, 0)), (0, (150_000, 150_000, 150_000, 0)), (0, (100, 150_000, 1, 149_999)),
+            (2, (99, 100, 1, 0)),
+            (2, (100, 99, 1, 0)), (2, (150_001, 100, 1, 0)), (2, (100, 150_001, 1, 0)), (2, (100, 100, 0, 0)),
+            (2, (150_000, 150_000, 150_001, 0)), (2, (100, 100, 1, 150_001)), (2, (100, 100, 150_001, 150_000)),
+            (9, (100, 100, 101, 0)), (9, (100, 100, 1, 100)), (9, (100, 100, 100, 1)),
+            (9, (100, 100, 150_000, 150_000)),
+            (2, (100, 100, 0, 150_000)), (2, (99, 100, 101, 0)), (2, (100, 99, 100, 0)),
+        ):
+            self.assertEqual(m.zones(*asked)[0], number, msg=asked)
+            if number:
+                self.assertEqual(m.zones(*asked), (number, 0, []))
+
+    def test_wrong_number(self) -> None:
+        """Of 3 sections with m 4 and m 6, and of 5."""
+        for own_m, fore, sections in ((4, 99, 3), (6, 99, 3), (4, 100, 5), (6, 100, 5)):
+            for depths in range(8):
+                for breadths in range(50):
+                    wrong = m.tank_wrong_number(1800, 1800, own_m, 600, fore, [9] * depths, [9] * breadths)
+                    self.assertEqual(wrong, (depths, breadths) != (sections, sections * (own_m + 1)))
+
+    def test_zones_by_whole_numbers(self) -> None:
+        """The same without fractions: everything multiplied by 3 times both numbers of parts."""
+        rng = Random(3)
+        between = 0
+        for _ in range(800):
+            length = rng.choice((rng.randint(100, 5000), 36 * rng.randint(3, 12), rng.randint(100, 150_000)))
+            tonnage_length = rng.choice((length, 150_000))
+            own = rng.randint(1, length)
+            fore = rng.randint(0, length - own)
+            parts = m.parts_of_under_deck(tonnage_length, length)
+            number, own_parts, found = m.zones(tonnage_length, length, own, fore)
+            expected = []
+            for station in range(own_parts + 1):
+                place, aft = (fore * own_parts + station * own) * 3 * parts, 0
+                for zone, times in enumerate([1] + [4, 2] * (parts // 2 - 1) + [4, 1], start=1):
+                    before, aft = aft, aft + times * length * own_parts
+                    expected += [zone] if before <= place <= aft else []
+            self.assertEqual((number, found), (0, expected))
+            between += len(expected) > own_parts + 1
+        self.assertGreater(between, 5)
+
+
 class Properties(unittest.TestCase):
     """What follows from the rules."""
 

@@ -8,7 +8,8 @@
 //! and every number may be passed. A call's number is 0 where it was accepted. A call on a sheet takes it, and hands the sheet after it
 //! back with the answer: the earlier one is gone unless it was cloned, and the compiler warns where an answer is dropped.
 
-/// A space as it stands; `within` is the enclosing id, 0 for a U, B, S or H.
+/// A space as it stands; `within` is the enclosing id, 0 for a U, B, S or H. `m` is a U's parts of depth, 4 or 6, where it was entered from
+/// offsets; else 0, and 0 for all that was read from a file.
 #[repr(C)]
 #[derive(Clone, Copy, Debug, PartialEq, Eq)]
 pub struct Space {
@@ -16,6 +17,7 @@ pub struct Space {
     pub within: u16,
     pub kind: u8,
     pub standing: u8,
+    pub m: u8,
     pub tonnage: u32,
     pub length: u32,
 }
@@ -29,6 +31,17 @@ pub struct Entry {
     pub kind: u8,
     pub standing: u8,
     pub length: u32,
+}
+
+/// A tank to be entered; `within` is the id of its U, `fore` the distance of its fore end along that.
+#[repr(C)]
+#[derive(Clone, Copy, Debug, Default)]
+pub struct Tank {
+    pub id: u16,
+    pub within: u16,
+    pub standing: u8,
+    pub length: u32,
+    pub fore: u32,
 }
 
 /// A change as a sheet keeps it.
@@ -83,6 +96,16 @@ pub struct Reported {
     pub sheet: Sheet,
 }
 
+/// Where a tank is measured: the number, its parts, and how many sections it asks (0 and 0 where refused).
+#[repr(C)]
+#[derive(Clone, Copy, Debug, PartialEq, Eq)]
+#[must_use = "the parts and sections are in it, and whether the tank was refused"]
+pub struct LaidOut {
+    pub number: u8,
+    pub parts: usize,
+    pub sections: usize,
+}
+
 /// The number, the bytes written (0 where refused), and the sheet as it came.
 #[repr(C)]
 #[must_use = "the sheet is in it, and whether the write was refused"]
@@ -115,11 +138,13 @@ pub struct Listing {
 const _: () = {
     assert!(size_of::<Space>() == 16);
     assert!(size_of::<Entry>() == 12);
+    assert!(size_of::<Tank>() == 16);
     assert!(size_of::<OpenChange>() == 32);
     assert!(size_of::<Sheet>() == 5280);
     assert!(size_of::<Changed>() == 5288);
     assert!(size_of::<Counted>() == 5296);
     assert!(size_of::<Reported>() == 5304);
+    assert!(size_of::<LaidOut>() == 24);
     assert!(size_of::<Written>() == 5296);
     assert!(size_of::<Reading>() == 5312);
     assert!(size_of::<Listing>() == 8200);
@@ -138,6 +163,14 @@ mod calls {
             breadths: *const u32,
             breadths_count: usize,
         ) -> Changed;
+        pub fn fummidrake_enter_tank(
+            sheet: Sheet,
+            tank: Tank,
+            depths: *const u32,
+            depths_count: usize,
+            breadths: *const u32,
+            breadths_count: usize,
+        ) -> Changed;
         pub safe fn fummidrake_withdraw(sheet: Sheet, id: u16) -> Changed;
         pub safe fn fummidrake_mark(sheet: Sheet, id: u16, standing: u8) -> Changed;
         pub safe fn fummidrake_undo(sheet: Sheet) -> Changed;
@@ -150,6 +183,14 @@ mod calls {
         pub safe fn fummidrake_space_at(sheet: Sheet, place: usize) -> Space;
         pub safe fn fummidrake_stations(kind: u8, tonnage_length: u32, length: u32) -> usize;
         pub safe fn fummidrake_breadths_at_station(kind: u8, middle: u32) -> usize;
+        pub safe fn fummidrake_lay_out(tonnage_length: u32, under_deck: u32, length: u32, fore: u32) -> LaidOut;
+        pub safe fn fummidrake_section_station(
+            tonnage_length: u32,
+            under_deck: u32,
+            length: u32,
+            fore: u32,
+            section: usize,
+        ) -> usize;
         pub fn fummidrake_write(sheet: Sheet, justified: u8, buf: *mut u8, buf_bytes: usize, at: usize) -> Written;
         pub fn fummidrake_read(file: *const u8, file_bytes: usize) -> Reading;
         pub fn fummidrake_read_before(file: *const u8, file_bytes: usize, start: usize) -> Reading;
@@ -170,6 +211,17 @@ impl Sheet {
         // SAFETY: each pointer and its count are one slice's.
         unsafe {
             calls::fummidrake_enter(self, entry, heights.as_ptr(), heights.len(), breadths.as_ptr(), breadths.len())
+        }
+    }
+
+    /// Enters a tank that follows the hull, a room directly inside its U, from its sections, as `lay_out` counts them: a depth a section, and
+    /// the breadths section by section from the bow, at each m + 1 from above, with that U's m. Where a tank station falls exactly between two
+    /// zones there are two sections, the fore zone's first, and the larger area is taken. Refused with 1 to 6, 9, 10, 29: 3, and 9 by the
+    /// tank's tonnage, only in a U with m whose ends the tank doesn't pass.
+    pub fn enter_tank(self, tank: Tank, depths: &[u32], breadths: &[u32]) -> Changed {
+        // SAFETY: each pointer and its count are one slice's.
+        unsafe {
+            calls::fummidrake_enter_tank(self, tank, depths.as_ptr(), depths.len(), breadths.as_ptr(), breadths.len())
         }
     }
 
@@ -250,6 +302,19 @@ pub fn stations(kind: u8, tonnage_length: u32, length: u32) -> usize {
 #[must_use]
 pub fn breadths_at_station(kind: u8, middle: u32) -> usize {
     calls::fummidrake_breadths_at_station(kind, middle)
+}
+
+/// Where a tank is measured, in a U of the length `under_deck`, before it is entered: its parts, and how many sections it asks. Refused with
+/// 2, 9. A U longer than the tonnage length is a part made by a step.
+pub fn lay_out(tonnage_length: u32, under_deck: u32, length: u32, fore: u32) -> LaidOut {
+    calls::fummidrake_lay_out(tonnage_length, under_deck, length, fore)
+}
+
+/// The number, from 1, of the under-deck station inside whose section the tank's section, counted from 0, is measured; 0 past the last
+/// section, and where `lay_out` refuses.
+#[must_use]
+pub fn section_station(tonnage_length: u32, under_deck: u32, length: u32, fore: u32, section: usize) -> usize {
+    calls::fummidrake_section_station(tonnage_length, under_deck, length, fore, section)
 }
 
 /// Reads the last sheet of a file, which may be any bytes; the bytes ahead of its start are the earlier sheets, read the same way. Refused, with a

@@ -67,8 +67,8 @@ static fummidrake_sheet three_spaces(void) {
 }
 
 static bool same_space(fummidrake_space a, fummidrake_space b) {
-    return a.id == b.id && a.within == b.within && a.kind == b.kind && a.standing == b.standing && a.tonnage == b.tonnage &&
-           a.length == b.length;
+    return a.id == b.id && a.within == b.within && a.kind == b.kind && a.standing == b.standing && a.m == b.m &&
+           a.tonnage == b.tonnage && a.length == b.length;
 }
 
 static bool same_change(fummidrake_open_change a, fummidrake_open_change b) {
@@ -96,6 +96,7 @@ static void fields(void) {
     HOLDS(sheet.count == 3 && fummidrake_standing_count(sheet) == 3);
     for (size_t place = 0; place < 3; place++)
         HOLDS(same_space(sheet.spaces[place], fummidrake_space_at(sheet, place)));
+    HOLDS(sheet.spaces[0].m == 4 && sheet.spaces[1].m == 0 && sheet.spaces[2].m == 0);
     HOLDS(sheet.undoable == 4 && counted.undoable == 4);
     HOLDS(sheet.redoable == 1 && counted.redoable == 1);
     fummidrake_open_change entry = sheet.changes[0], mark = sheet.changes[3], withdrawal = sheet.changes[4];
@@ -118,6 +119,69 @@ static void lists(void) {
         fummidrake_entry entry = {1, 0, (uint8_t)any(7), 0, any(2) ? 4800 : (uint32_t)any(9000)};
         HOLDS(fummidrake_enter(sheet, entry, hs, h, bs, b).number <= 10);
     }
+}
+
+/* The same of a tank's sections, mostly as many as are asked. */
+static void sections(void) {
+    room depths = new_room(), breadths = new_room();
+    fummidrake_sheet sheet = three_spaces();
+    for (int turn = 0; turn < 4000; turn++) {
+        fummidrake_tank tank = {9, any(9) ? 1 : (uint16_t)any(5), any(9) ? 0 : (uint8_t)any(5), (uint32_t)any(2500), 0};
+        tank.fore = (uint32_t)any(any(2) ? 4000 : 1000);
+        if (any(20) == 0)
+            tank.fore = (uint32_t)any(UINT64_C(1) << 32);
+        size_t asked = fummidrake_lay_out(4800, 4800, tank.length, tank.fore).sections;
+        size_t d = any(4) ? asked : any(40), b = any(4) ? 5 * d : any(220);
+        uint32_t *ds = (uint32_t *)placed(depths, 4 * d, any(2)), *bs = (uint32_t *)placed(breadths, 4 * b, any(2));
+        for (size_t i = 0; i < d; i++)
+            ds[i] = (uint32_t)any(any(200) ? 1201 : UINT64_C(1) << 32);
+        for (size_t i = 0; i < b; i++)
+            bs[i] = (uint32_t)any(any(200) ? 2001 : UINT64_C(1) << 32);
+        uint8_t number = fummidrake_enter_tank(sheet, tank, ds, d, bs, b).number;
+        HOLDS(number != 1 && number <= 10);
+    }
+}
+
+/* Where a tank is measured, of any numbers: a station for each section, from the bow on, and none behind the last. */
+static void zones(void) {
+    for (int turn = 0; turn < 4000; turn++) {
+        uint64_t most = any(9) ? 150002 : UINT64_C(1) << 32;
+        uint32_t whole = (uint32_t)any(most), part = any(2) ? whole : (uint32_t)any(most);
+        uint32_t length = (uint32_t)any(any(2) ? 3000 : most), fore = (uint32_t)any(any(2) ? 3000 : most);
+        fummidrake_laid_out laid_out = fummidrake_lay_out(whole, part, length, fore);
+        if (laid_out.number == 0)
+            HOLDS(2 <= laid_out.parts && laid_out.parts <= 16 && laid_out.parts < laid_out.sections);
+        else
+            HOLDS((laid_out.number == 2 || laid_out.number == 9) && laid_out.parts == 0 && laid_out.sections == 0);
+        size_t before = 1;
+        for (size_t i = 0; i < laid_out.sections; i++) {
+            size_t station = fummidrake_section_station(whole, part, length, fore, i);
+            HOLDS(before <= station && station <= 17);
+            before = station;
+        }
+        HOLDS(fummidrake_section_station(whole, part, length, fore, laid_out.sections) == 0);
+        HOLDS(fummidrake_section_station(whole, part, length, fore, SIZE_MAX) == 0);
+    }
+}
+
+/* A tank that is its whole U has the U's tonnage; in the same U read back from a file it is refused with 29. */
+static void whole_under_deck(void) {
+    uint32_t depths[7], breadths[35];
+    for (size_t i = 0; i < 7; i++)
+        depths[i] = 1200;
+    for (size_t i = 0; i < 35; i++)
+        breadths[i] = 2000;
+    fummidrake_sheet sheet = entered(fummidrake_open(4800).sheet, (fummidrake_entry){1, 0, 1, 0, 4800}, depths, 7, breadths, 35);
+    fummidrake_tank tank = {2, 1, 3, 4800, 0};
+    fummidrake_changed answer = fummidrake_enter_tank(sheet, tank, depths, 7, breadths, 35);
+    fummidrake_space expected = sheet.spaces[0];
+    expected.id = 2, expected.within = 1, expected.kind = 5, expected.standing = 3, expected.m = 0;
+    HOLDS(answer.number == 0 && same_space(fummidrake_space_at(answer.sheet, 1), expected));
+    uint8_t file[44];
+    HOLDS(fummidrake_write(sheet, 0, file, sizeof file, 0).number == 0);
+    sheet = fummidrake_read(file, sizeof file).sheet;
+    HOLDS(fummidrake_space_at(sheet, 0).m == 0);
+    HOLDS(fummidrake_enter_tank(sheet, tank, depths, 7, breadths, 35).number == 29);
 }
 
 /* Buffers and files of any length: no byte outside is touched, and none inside but those written. */
@@ -163,10 +227,16 @@ static void same_in_place(uint8_t number, fummidrake_sheet left, fummidrake_chan
 }
 
 static void changes_in_place(fummidrake_sheet sheet, fummidrake_entry entry, uint8_t standing) {
-    uint32_t ten = 1000;
+    uint32_t ten = 1000, tens[15];
+    for (size_t i = 0; i < 15; i++)
+        tens[i] = ten;
     fummidrake_sheet left = sheet;
     uint8_t number = fummidrake_enter_on(&left, entry, &ten, 1, &ten, 1);
     same_in_place(number, left, fummidrake_enter(sheet, entry, &ten, 1, &ten, 1));
+    left = sheet;
+    fummidrake_tank tank = {entry.id, entry.within, standing, 800, 0};
+    number = fummidrake_enter_tank_on(&left, tank, tens, 3, tens, 15);
+    same_in_place(number, left, fummidrake_enter_tank(sheet, tank, tens, 3, tens, 15));
     left = sheet;
     number = fummidrake_withdraw_on(&left, entry.id);
     same_in_place(number, left, fummidrake_withdraw(sheet, entry.id));
@@ -211,11 +281,13 @@ static void in_place(void) {
 
 /* Every call on a sheet, whatever its bytes are: it ends, and one that isn't open is refused with 1. */
 static void every_call(fummidrake_sheet sheet) {
-    uint32_t ten = 1000;
+    uint32_t ten = 1000, tens[15] = {0};
     uint8_t buf[4096], unopened = fummidrake_is_open(sheet) ? 0 : 1, justified = (uint8_t)any(3);
     uint16_t id = sheet.spaces[any(200)].id;
+    fummidrake_tank tank = {any(2) ? id : 9999, sheet.spaces[any(2)].id, (uint8_t)any(5), 500, (uint32_t)any(2000)};
     uint8_t numbers[] = {
         fummidrake_enter(sheet, (fummidrake_entry){id, 1, 5, 0, 500}, &ten, 1, &ten, 1).number,
+        fummidrake_enter_tank(sheet, tank, tens, 3, tens, 15).number,
         fummidrake_withdraw(sheet, id).number,
         fummidrake_mark(sheet, id, (uint8_t)any(5)).number,
         fummidrake_undo(sheet).number,
@@ -224,7 +296,7 @@ static void every_call(fummidrake_sheet sheet) {
         fummidrake_write(sheet, justified, buf, sizeof buf, any(4200)).number,
     };
     for (size_t i = 0; i < sizeof numbers; i++)
-        HOLDS(unopened ? numbers[i] == 1 : numbers[i] <= 15 && numbers[i] != 1);
+        HOLDS(unopened ? numbers[i] == 1 : (numbers[i] <= 15 || numbers[i] == 29) && numbers[i] != 1);
     HOLDS(fummidrake_standing_count(sheet) <= 200 && fummidrake_counts(sheet).undoable <= 64);
     HOLDS(same_space(fummidrake_space_at(sheet, fummidrake_standing_count(sheet)), (fummidrake_space){0}));
     changes_in_place(sheet, (fummidrake_entry){id, 1, 5, 0, 500}, (uint8_t)any(5));
@@ -247,6 +319,9 @@ static void any_bytes(void) {
         sheet.redoable = any(65 - sheet.undoable);
         HOLDS(fummidrake_is_open(sheet));
         every_call(sheet);
+        sheet.spaces[0].kind = 1;
+        sheet.spaces[0].m = any(2) ? 4 : (uint8_t)any(256);
+        every_call(sheet);
     }
 }
 
@@ -254,6 +329,9 @@ int main(void) {
     fields();
     in_place();
     lists();
+    sections();
+    zones();
+    whole_under_deck();
     buffers();
     longest();
     any_bytes();

@@ -1,23 +1,31 @@
 #!/usr/bin/env python3
-"""Builds and runs the examples in C and Rust by the README's own lines, and fails where one prints something else than the second
-program's answers and listing, examples/answers.txt; and fails where the README's few lines of C or Rust answer another number than
-it says of them.
+"""Builds and runs the examples in C and Rust by the README's own lines, and plays the tank's script on the proved program; fails where one
+prints something else than the second program's answers, examples/answers.txt (with the listing) and examples/tank_answers.txt; and fails
+where the README's few lines of C or Rust answer another number than it says of them, or its section on the tank quotes an answer that
+isn't among these.
 
 A line that compiles C or runs a program goes by tools/x86, which does the same on a machine of another kind; where no Rust is compiled
-for x86-64, the example in Rust is left out.
+for x86-64, the examples in Rust are left out.
 
-Run at the root of the project: python3 tools/examples.py [-v]   (-v prints what each line prints)
+Run at the root of the project, after `rt check survey`: python3 tools/examples.py [-v]   (-v prints what each line prints)
 """
 import re
 import subprocess
 import sys
 from pathlib import Path
 
-ANSWERS = Path('examples/answers.txt')
+# The answers of each script: a line a call, its name and its answer.
+ANSWERS = {'barge': Path('examples/answers.txt'), 'tank': Path('examples/tank_answers.txt')}
+# Each line of the README that must print the answers of a script; `survey` prints them without the calls' names.
+RUNS = {'target/survey_c': 'barge', 'target/survey_rust': 'barge', 'target/tank_c': 'tank', 'target/tank_rust': 'tank'}
+PLAYS = {'target/bin/survey < examples/tank.txt': 'tank'}
 CODE = re.compile(r'```\w+\n(.*?)```', re.S)
 
-# Each section of the README: a program around its few lines, LINES, which ends with status 0 where HELD, and how it is built and run.
-SECTIONS = {
+# The sections of the README with lines that are run, and those of them with few lines of code: a program around these, LINES, which ends
+# with status 0 where HELD, and how it is built and run.
+TANK = 'A tank that follows the hull'
+SECTIONS = ('Call it from C', 'Call it from Rust', TANK)
+CALLS = {
     'Call it from C': (
         'calls.c',
         '#include "fummidrake.h"\nint main(void) {\nLINES    return HELD ? 0 : 1;\n}\n',
@@ -43,13 +51,19 @@ def lines_of(section: str) -> list[str]:
 
 def try_code(section: str) -> None:
     """Runs a section's few lines: each `x is N` and `x.number is N` that they say must hold."""
-    name, program, build = SECTIONS[section]
+    name, program, build = CALLS[section]
     code = CODE.search(text_of(section))[1]
     said = re.findall(r'(\w+(?:\.number)?) is (\d+)', code)
     assert said, f'{section}: nothing is said of a number'
     held = ' && '.join(f'{number} == {n}' for number, n in said)
     Path('target', name).write_text(program.replace('LINES', code).replace('HELD', held))
     printed(build)
+
+
+def misquoted() -> list[str]:
+    """The answers in the section on the tank, each a quotation that begins with a digit, that the second program doesn't give."""
+    answers = ANSWERS['tank'].read_text()
+    return [quoted for quoted in re.findall(r'`(\d[^`]*)`', text_of(TANK)) if quoted not in answers]
 
 
 def on_this_machine(line: str) -> str:
@@ -65,20 +79,36 @@ def printed(line: str) -> str:
     return run.stdout
 
 
+def answers_to(line: str) -> str | None:
+    """What a line must print; None where it may print anything."""
+    if line in RUNS:
+        return ANSWERS[RUNS[line]].read_text()
+    if line in PLAYS:
+        return re.sub(r'(?m)^\w+ ', '', ANSWERS[PLAYS[line]].read_text())
+    return None
+
+
 def main() -> int:
     rust = subprocess.run(['tools/x86', 'rust']).returncode == 0
-    for section in SECTIONS:
-        if 'Rust' in section and not rust:
+    lines = [(section, line) for section in SECTIONS for line in lines_of(section)]
+    if missing := {*RUNS, *PLAYS} - {line for _, line in lines}:
+        print(f'README.md: no line {", ".join(sorted(missing))}')
+        return 1
+    if wrong := misquoted():
+        print(f'README.md: quotes {", ".join(wrong)}, which {ANSWERS["tank"]} doesn\'t have')
+        return 1
+    for section, line in lines:
+        if 'rust' in line and not rust:
             continue
-        for line in lines_of(section):
-            found = printed(line)
-            if '-v' in sys.argv:
-                print(f'$ {line}\n{found}', end='')
-        # the last line runs the program
-        if found != ANSWERS.read_text():
-            print(f'{section}: the example prints something else than {ANSWERS}:\n{found}')
+        found = printed(line)
+        if '-v' in sys.argv:
+            print(f'$ {line}\n{found}', end='')
+        if answers_to(line) not in (None, found):
+            print(f'{section}: {line} prints something else than the second program:\n{found}')
             return 1
-        try_code(section)
+    for section in CALLS:
+        if rust or 'Rust' not in section:
+            try_code(section)
     return 0
 
 

@@ -26,6 +26,7 @@ PLAIN = {
 }
 SHEET = 'Sheet'
 MUST_USE = 'FUMMIDRAKE_MUST_USE'
+REFUSALS = 19  # the paper's 1 to 18, and 29
 ARRAY = re.compile(r'\[(\w+); (\d+)\]')
 SLICE = re.compile(r'&(mut )?\[(\w+)\]')
 Fields = dict[str, str]  # each name with its type, in order
@@ -238,7 +239,7 @@ def faults() -> Iterator[str]:
     yield from (f'{HEADER}: no sentence: {block}' for block in blocks_of_header() if not block.startswith('/* '))
     yield from differences(HEADER, asserted_in_c(handed), re.findall(r'FUMMIDRAKE_(?:FIELD|SIZE)\([^)]*\);', HEADER.read_text()))
     yield from differences(RUST_MODULE, asserted_in_rust(handed), re.findall(r'assert!\(size_of[^;]*;', RUST_MODULE.read_text()))
-    if table(HEADER) != table(README) or len(table(HEADER)) != 18:
+    if table(HEADER) != table(README) or len(table(HEADER)) != REFUSALS:
         yield f'{HEADER}: the table of refusals is not the README\'s'
     yield from stack_faults(exported)
     version = VERSION.read_text().strip()

@@ -13,6 +13,8 @@
 #include <ucontext.h>
 
 enum { PAINT = 0xa5, STATIONS = 17, ALL_BREADTHS = 17 * 7, DAY = 65536, LAST = DAY - (16 * 200 + 28), LENGTH = 30000 };
+/* A tank in the U, of 16 parts; three of its stations lie between two zones. */
+enum { TANK_LENGTH = 28000, TANK_FORE = 1375, SECTIONS = STATIONS + 3, SECTION_BREADTHS = SECTIONS * 7 };
 
 /* What the calls are given, and where they leave their answers: nothing of it lies on the stack that is measured. */
 typedef struct {
@@ -24,12 +26,15 @@ typedef struct {
 
 static input given;
 static uint32_t heights[STATIONS], breadths[ALL_BREADTHS];
+static uint32_t section_depths[SECTIONS], section_breadths[SECTION_BREADTHS];
+static const fummidrake_tank tank = {9999, 2, 0, TANK_LENGTH, TANK_FORE};
 /* A day whose last sheet is the full one, and the room for another. */
 static uint8_t day[DAY], buffer[DAY];
 static uint8_t number;
 static fummidrake_changed changed;
 static fummidrake_counted counted;
 static fummidrake_reported reported;
+static fummidrake_laid_out laid_out;
 static fummidrake_written written;
 static fummidrake_reading reading;
 static fummidrake_listing listing;
@@ -47,6 +52,7 @@ static size_t size;
     }
 
 CHANGES(enter, , given.entry, heights, given.heights, breadths, given.breadths)
+CHANGES(enter_tank, , tank, section_depths, SECTIONS, section_breadths, SECTION_BREADTHS)
 CHANGES(withdraw, , given.id)
 CHANGES(mark, , given.id, 1)
 CHANGES(undo, )
@@ -111,6 +117,15 @@ static void breadths_at_station(void) {
     number = fummidrake_breadths_at_station(1, 1700) == 7 ? 0 : 1;
 }
 
+static void lay_out(void) {
+    laid_out = fummidrake_lay_out(LENGTH, LENGTH, TANK_LENGTH, TANK_FORE);
+    number = laid_out.sections == SECTIONS ? 0 : 1;
+}
+
+static void section_station(void) {
+    number = fummidrake_section_station(LENGTH, LENGTH, TANK_LENGTH, TANK_FORE, SECTIONS - 1) == STATIONS ? 0 : 1;
+}
+
 static void read(void) {
     reading = fummidrake_read(day, DAY);
     number = reading.number;
@@ -136,6 +151,7 @@ static const struct {
 } calls[] = {
     ROW(open, FUMMIDRAKE_STACK_OPEN),
     ROW_ON(enter, FUMMIDRAKE_STACK_ENTER),
+    ROW_ON(enter_tank, FUMMIDRAKE_STACK_ENTER_TANK),
     ROW_ON(withdraw, FUMMIDRAKE_STACK_WITHDRAW),
     ROW_ON(mark, FUMMIDRAKE_STACK_MARK),
     ROW_ON(undo, FUMMIDRAKE_STACK_UNDO),
@@ -148,6 +164,8 @@ static const struct {
     ROW(space_at, FUMMIDRAKE_STACK_SPACE_AT),
     ROW(stations, FUMMIDRAKE_STACK_STATIONS),
     ROW(breadths_at_station, FUMMIDRAKE_STACK_BREADTHS_AT_STATION),
+    ROW(lay_out, FUMMIDRAKE_STACK_LAY_OUT),
+    ROW(section_station, FUMMIDRAKE_STACK_SECTION_STATION),
     ROW_ON(write, FUMMIDRAKE_STACK_WRITE),
     ROW(read, FUMMIDRAKE_STACK_READ),
     ROW(read_before, FUMMIDRAKE_STACK_READ_BEFORE),
@@ -226,6 +244,10 @@ enum { INPUTS = 8 };
 static input inputs[INPUTS];
 
 static void set_up(void) {
+    for (size_t i = 0; i < SECTIONS; i++)
+        section_depths[i] = 1500;
+    for (size_t i = 0; i < SECTION_BREADTHS; i++)
+        section_breadths[i] = 400;
     fummidrake_sheet full = sheet_of(200), fewer = sheet_of(199), ring = full;
     fummidrake_sheet withdrawn = full, marked = full, closed = fummidrake_open(0).sheet;
     accepted(fummidrake_withdraw_on(&withdrawn, 1));

@@ -34,6 +34,7 @@ def stored() -> dict[Path, bytes]:
     found[Path('examples/barge.day')] = whole  # the file that the example barge's morning writes
     barge = Path('examples/barge.txt').read_text()
     found[Path('examples/answers.txt')] = (morning(barge) + dayfile.listing(whole)).encode('ascii')
+    found[Path('examples/tank_answers.txt')] = morning(Path('examples/tank.txt').read_text()).encode('ascii')
     found[Path('examples/barge.svg')] = picture(dayfile.listing(whole)).encode('ascii')
     return found
 

@@ -1,6 +1,6 @@
 //! The same calls as the proved ones: a sheet goes in by value, and comes back with the answer. None is inlined, as none of theirs
 //! can be.
-use super::{Counts, Entry, Read, Refusal, Report, Sheet, Unread};
+use super::{Counts, Entry, Read, Refusal, Report, Sheet, Tank, Unread};
 
 /// What a call answers, and the sheet after it.
 pub struct After<A> {
@@ -19,6 +19,11 @@ pub fn open(length: u32) -> Changed {
 #[inline(never)]
 pub fn enter(mut sheet: Sheet, entry: Entry, heights: &[u32], breadths: &[u32]) -> Changed {
     After { answer: sheet.enter(entry, heights, breadths), sheet }
+}
+
+#[inline(never)]
+pub fn enter_tank(mut sheet: Sheet, tank: Tank, depths: &[u32], breadths: &[u32]) -> Changed {
+    After { answer: sheet.enter_tank(tank, depths, breadths), sheet }
 }
 
 #[inline(never)]

@@ -195,7 +195,7 @@ fn record_of(space: &Space) -> Record {
     record
 }
 
-/// The space of a record, at no level yet; none where one of its own numbers is wrong. Its id is judged as an entry's.
+/// The space of a record, at no level yet and without m; none where one of its own numbers is wrong. Its id is judged as an entry's.
 fn space_of(record: &Record) -> Option<Space> {
     let space = Space {
         id: u16::from_le_bytes(field(record, 0)),
@@ -203,6 +203,7 @@ fn space_of(record: &Record) -> Option<Space> {
         kind: Kind::of_code(record[4])?,
         standing: Standing::of_code(record[5])?,
         level: 0,
+        m: 0,
         tonnage: u32::from_le_bytes(field(record, 8)),
         length: u32::from_le_bytes(field(record, 12)),
     };

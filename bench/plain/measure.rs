@@ -14,13 +14,19 @@ pub enum Kind {
     Room,
 }
 
+/// A space measured: its tonnage, and a U's parts of depth; 0 of any other.
+pub struct Measured {
+    pub tonnage: u32,
+    pub m: u8,
+}
+
 const SHORTEST: u32 = 100;
-const LONGEST: u32 = 150_000;
+pub const LONGEST: u32 = 150_000;
 const DEEPEST: u32 = 20_000;
 const BROADEST: u32 = 30_000;
 
 /// One station more than the most parts.
-const MOST_STATIONS: usize = 17;
+pub const MOST_STATIONS: usize = 17;
 
 /// A cubic foot, which is a hundredth of a ton, in products of three measures.
 const CUBIC_FOOT: u64 = 1_000_000;
@@ -53,14 +59,14 @@ pub fn is_tonnage_length(length: u32) -> bool {
     (SHORTEST..=LONGEST).contains(&length)
 }
 
-/// The tonnage of a space on a sheet with a tonnage length, or refusal 2 or 3.
-pub fn tonnage(
+/// A space measured on a sheet with a tonnage length, or refusal 2 or 3.
+pub fn measured(
     kind: Kind,
     tonnage_length: u32,
     length: u32,
     heights: &[u32],
     breadths: &[u32],
-) -> Result<u32, Refusal> {
+) -> Result<Measured, Refusal> {
     if !kind.takes_length(length) || !offsets_in_range(kind, heights, breadths) {
         return Err(Refusal::OutsideItsRange);
     }
@@ -71,15 +77,16 @@ pub fn tonnage(
     if breadths.len() != at_station * heights.len() {
         return Err(Refusal::NotTheNumberAsked);
     }
-    Ok(match kind {
+    let tonnage = match kind {
         Kind::UnderDeck => under_deck(length, heights, breadths, at_station),
         Kind::BetweenDeck | Kind::Superstructure => level(length, heights, breadths),
         Kind::Hatchway | Kind::Room => hatchway_or_room(length, heights[0], breadths[0]),
-    })
+    };
+    Ok(Measured { tonnage, m: at_station as u8 - 1 })
 }
 
 /// Every height and breadth is in its range, surplus ones too; the least of a hatchway or a room is 1.
-fn offsets_in_range(kind: Kind, heights: &[u32], breadths: &[u32]) -> bool {
+pub fn offsets_in_range(kind: Kind, heights: &[u32], breadths: &[u32]) -> bool {
     let least = matches!(kind, Kind::Hatchway | Kind::Room) as u32;
     all_within(heights, least..=DEEPEST) && all_within(breadths, least..=BROADEST)
 }
@@ -92,13 +99,20 @@ fn all_within(measures: &[u32], range: RangeInclusive<u32>) -> bool {
 /// One station more than parts; a hatchway or a room, which isn't divided, has one.
 fn stations(kind: Kind, tonnage_length: u32, length: u32) -> usize {
     let parts = match kind {
-        Kind::UnderDeck if length == tonnage_length => parts_by_table(length),
-        Kind::UnderDeck => parts_of_step_part(length),
+        Kind::UnderDeck => parts_of_under_deck(tonnage_length, length),
         Kind::BetweenDeck => parts_by_table(tonnage_length),
-        Kind::Superstructure => parts_of_superstructure(tonnage_length, length),
+        Kind::Superstructure => parts_nearest(tonnage_length, parts_by_table(tonnage_length), length),
         Kind::Hatchway | Kind::Room => 0,
     };
     parts as usize + 1
+}
+
+pub fn parts_of_under_deck(tonnage_length: u32, length: u32) -> u32 {
+    if length == tonnage_length {
+        parts_by_table(length)
+    } else {
+        parts_of_step_part(length)
+    }
 }
 
 /// The table of 69.109(g).
@@ -121,11 +135,10 @@ fn parts_of_step_part(length: u32) -> u32 {
     }
 }
 
-/// The even number whose interval is nearest to that of the tonnage length; on a tie, the greater.
-fn parts_of_superstructure(tonnage_length: u32, length: u32) -> u32 {
-    let whole = parts_by_table(tonnage_length);
-    // how far length / parts is from the tonnage length's interval, times both numbers of parts
-    let distance = |parts: u32| (length * whole).abs_diff(tonnage_length * parts);
+/// The even number whose interval of a length is nearest to that of a whole, the reference, in so many parts; on a tie, the greater.
+pub fn parts_nearest(whole: u32, parts_of_whole: u32, length: u32) -> u32 {
+    // how far length / parts is from the reference, times both numbers of parts
+    let distance = |parts: u32| (length * parts_of_whole).abs_diff(whole * parts);
     let nearer = |first: u32, second: u32| {
         if distance(second) * first <= distance(first) * second {
             second
@@ -158,13 +171,29 @@ fn third_of_length(length: u32, stations: usize) -> u64 {
 }
 
 fn under_deck(length: u32, depths: &[u32], breadths: &[u32], at_station: usize) -> u32 {
-    let mut areas = [0u64; MOST_STATIONS];
-    let parts_of_depth = at_station as u64 - 1;
-    for ((area, &depth), of_station) in areas.iter_mut().zip(depths).zip(breadths.chunks_exact(at_station)) {
-        *area = with_multipliers(of_station) * nearest(depth.into(), 3 * parts_of_depth);
+    let mut areas = [0; MOST_STATIONS];
+    for (area, of_station) in areas.iter_mut().zip(areas_of_sections(depths, breadths, at_station)) {
+        *area = of_station;
     }
-    let volume = with_multipliers(&areas[..depths.len()]) * third_of_length(length, depths.len());
-    nearest(volume, CUBIC_FOOT_BY_THIRDS) as u32
+    tons_over(length, &areas[..depths.len()])
+}
+
+/// The area of each section with its depth and breadths.
+pub fn areas_of_sections<'a>(
+    depths: &'a [u32],
+    breadths: &'a [u32],
+    at_section: usize,
+) -> impl Iterator<Item = u64> + 'a {
+    let parts_of_depth = at_section as u64 - 1;
+    let area = move |(&depth, of_section): (&u32, &[u32])| {
+        with_multipliers(of_section) * nearest(depth.into(), 3 * parts_of_depth)
+    };
+    depths.iter().zip(breadths.chunks_exact(at_section)).map(area)
+}
+
+/// The tonnage of a length with these areas at its stations.
+pub fn tons_over(length: u32, areas: &[u64]) -> u32 {
+    nearest(with_multipliers(areas) * third_of_length(length, areas.len()), CUBIC_FOOT_BY_THIRDS) as u32
 }
 
 /// A between-deck level or a superstructure: an area, times the plain mean of the heights.

@@ -1,4 +1,4 @@
-//! The paper's rules once more, in plain safe Rust written for speed: what the proved calls are timed against.
+//! The paper's rules, and those of tanks, once more, in plain safe Rust written for speed: what the proved calls are timed against.
 //!
 //! A sheet is changed in place. Like the proved one it holds its 200 places and its 64 open changes itself, since the measuring case
 //! has no heap. `by_value` has the same calls on a sheet that goes in by value and comes back.
@@ -12,9 +12,11 @@ mod measure;
 mod refusal;
 mod rules;
 mod sheet;
+mod tanks;
 
 pub use dayfile::{Read, Unread};
 pub use gross::Report;
 pub use refusal::Refusal;
 pub use rules::Space;
 pub use sheet::{Counts, Entry, Sheet};
+pub use tanks::{lay_out, section_station, LaidOut, Tank};

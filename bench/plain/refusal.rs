@@ -22,4 +22,5 @@ pub enum Refusal {
     NoSheet,
     WrongRecord,
     WrongSums,
+    NoM = 29,
 }

@@ -1,5 +1,6 @@
 //! A space and its enclosure, and the rules of entering, withdrawing and marking ("Spaces", "Numbers of refusal" 4 to 11).
 use super::measure::Kind;
+use super::tanks::passes_end;
 use super::Refusal;
 use std::iter::successors;
 
@@ -23,6 +24,8 @@ pub struct Space {
     pub standing: Standing,
     /// Worked out at entry: it can't change, since a space that encloses a room isn't withdrawn.
     pub level: u8,
+    /// A U's parts of depth, 4 or 6, where it was entered from offsets; else 0.
+    pub m: u8,
     pub tonnage: u32,
     pub length: u32,
 }
@@ -47,7 +50,7 @@ impl Standing {
 impl Space {
     /// What lies in a place that was never used.
     pub const NONE: Space =
-        Space { id: 0, within: 0, kind: Kind::Room, standing: Standing::Plain, level: 0, tonnage: 0, length: 0 };
+        Space { id: 0, within: 0, kind: Kind::Room, standing: Standing::Plain, level: 0, m: 0, tonnage: 0, length: 0 };
 
     pub fn is_plain(&self) -> bool {
         self.standing == Standing::Plain
@@ -109,9 +112,7 @@ fn above<'a>(spaces: &'a [Space], space: &Space) -> impl Iterator<Item = &'a Spa
 
 /// The level at which a new space stands, or the refusal of its entry, 4 to 10.
 pub fn level_of_entry(row: &(impl Row + ?Sized), tonnage_length: u32, new: &Space) -> Result<u8, Refusal> {
-    if new.id == 0 || new.id > GREATEST_ID || row.find(new.id).is_some() {
-        return Err(Refusal::NewId);
-    }
+    judge_id(row, new.id)?;
     let level = match new.kind {
         Kind::Room => level_of_room(row, new)?,
         _ => level_of_unenclosed(row, tonnage_length, new)?,
@@ -120,6 +121,36 @@ pub fn level_of_entry(row: &(impl Row + ?Sized), tonnage_length: u32, new: &Spac
         return Err(Refusal::NoPlace);
     }
     Ok(level)
+}
+
+/// 4: a new id is in its range, and not standing.
+fn judge_id(row: &(impl Row + ?Sized), id: u16) -> Result<(), Refusal> {
+    if id == 0 || id > GREATEST_ID || row.find(id).is_some() {
+        return Err(Refusal::NewId);
+    }
+    Ok(())
+}
+
+/// The refusal of a tank's entry, 4 to 10 and 29. Its U is at level 1 and plain, so that 7 and 8 don't come from it; its tonnage is judged
+/// where it has one, in a U with m.
+pub fn judge_tank(row: &(impl Row + ?Sized), tank: &Space, fore: u32) -> Result<(), Refusal> {
+    judge_id(row, tank.id)?;
+    let under_deck = row.find(tank.within).ok_or(Refusal::NotStanding)?;
+    if under_deck.kind != Kind::UnderDeck {
+        return Err(Refusal::CannotTake);
+    }
+    let has_m = under_deck.m != 0;
+    let overfull = || row.tonnage_inside(under_deck) + tank.tonnage > under_deck.tonnage;
+    if passes_end(under_deck.length, tank.length, fore) || has_m && overfull() {
+        return Err(Refusal::WouldPass);
+    }
+    if row.count() == PLACES {
+        return Err(Refusal::NoPlace);
+    }
+    if !has_m {
+        return Err(Refusal::NoM);
+    }
+    Ok(())
 }
 
 /// 5 to 9 of a room, which takes every standing.

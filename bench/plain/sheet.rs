@@ -1,8 +1,9 @@
 //! The sheet and its changes, made in place ("The sheet and its changes").
 use super::gross::{self, Report};
 use super::history::{Change, History};
-use super::measure::{is_tonnage_length, tonnage, Kind};
-use super::rules::{level_of_entry, place_to_mark, place_to_withdraw, Space, Standing, PLACES};
+use super::measure::{is_tonnage_length, measured, Kind, Measured};
+use super::rules::{judge_tank, level_of_entry, place_to_mark, place_to_withdraw, Row, Space, Standing, PLACES};
+use super::tanks::{self, Tank};
 use super::Refusal;
 
 /// What is entered; `within` is looked at only of a room.
@@ -61,10 +62,30 @@ impl Sheet {
         self.opened()?;
         let standing = Standing::of_code(entry.standing).ok_or(Refusal::OutsideItsRange)?;
         let kind = Kind::of_code(entry.kind).ok_or(Refusal::OutsideItsRange)?;
-        let tonnage = tonnage(kind, self.length, entry.length, heights, breadths)?;
+        let Measured { tonnage, m } = measured(kind, self.length, entry.length, heights, breadths)?;
         let within = if kind == Kind::Room { entry.within } else { 0 };
-        let mut space = Space { id: entry.id, within, kind, standing, level: 1, tonnage, length: entry.length };
+        let mut space = Space { id: entry.id, within, kind, standing, level: 1, m, tonnage, length: entry.length };
         space.level = level_of_entry(self.standing(), self.length, &space)?;
+        self.put_last(space);
+        self.history.note(Change::Entered(space));
+        Ok(())
+    }
+
+    /// Enters a tank that follows the hull from its sections; 1 to 6, 9, 10, 29.
+    pub fn enter_tank(&mut self, tank: Tank, depths: &[u32], breadths: &[u32]) -> Result<(), Refusal> {
+        self.opened()?;
+        let standing = Standing::of_code(tank.standing).ok_or(Refusal::OutsideItsRange)?;
+        if !tanks::in_range(tank.length, tank.fore, depths, breadths) {
+            return Err(Refusal::OutsideItsRange);
+        }
+        let measuring = |space: &&Space| space.m != 0 && !tanks::passes_end(space.length, tank.length, tank.fore);
+        let tonnage = match self.standing().find(tank.within).filter(measuring) {
+            Some(under_deck) => tanks::tonnage(self.length, under_deck, tank, depths, breadths)?,
+            None => 0,
+        };
+        let Tank { id, within, length, .. } = tank;
+        let space = Space { id, within, kind: Kind::Room, standing, level: 2, m: 0, tonnage, length };
+        judge_tank(self.standing(), &space, tank.fore)?;
         self.put_last(space);
         self.history.note(Change::Entered(space));
         Ok(())

@@ -15,7 +15,7 @@ static void print_spaces(const fummidrake_sheet *sheet) {
     printf("spaces 0 %d %u %zu", fummidrake_is_open(*sheet), fummidrake_tonnage_length(*sheet), count);
     for (size_t place = 0; place < count; place++) {
         fummidrake_space x = fummidrake_space_at(*sheet, place);
-        printf(" %d:%d:%d:%d:%u:%u", x.id, x.within, x.kind, x.standing, x.tonnage, x.length);
+        printf(" %d:%d:%d:%d:%u:%u:%d", x.id, x.within, x.kind, x.standing, x.tonnage, x.length, x.m);
     }
     printf("\n");
 }

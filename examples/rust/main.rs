@@ -1,5 +1,6 @@
 //! The barge's morning of `../barge.txt` in Rust: the whole sheet of the paper is made, reported, written, read back and listed. A
 //! line for each call: its name and its answer.
+#[allow(dead_code)]
 #[path = "../../rust/fummidrake.rs"]
 mod fummidrake;
 
@@ -16,7 +17,7 @@ fn answered(call: &str, answer: Changed) -> Sheet {
 fn print_spaces(sheet: &Sheet) {
     print!("spaces 0 {} {} {}", sheet.is_open() as u8, sheet.tonnage_length(), sheet.standing_count());
     for x in sheet.spaces() {
-        print!(" {}:{}:{}:{}:{}:{}", x.id, x.within, x.kind, x.standing, x.tonnage, x.length);
+        print!(" {}:{}:{}:{}:{}:{}:{}", x.id, x.within, x.kind, x.standing, x.tonnage, x.length, x.m);
     }
     println!();
 }

@@ -1,5 +1,6 @@
 -- "Record: id 2, enclosing id 2 (0 for U, B, S, H), kind 1, standing 1, zero 2, tonnage 4 .., length 4."
 use Prim.Native.Nat.{ℕ, zero, suc}
+use mathlib.Core.Path.{_≡_}
 use mathlib.Core.List.{List, [], _∷_, _++_}
 use lib.ListN.{drop, getD}
 use Rattle.measure.specs.Volumes.{hundredths}
@@ -24,8 +25,24 @@ recordSize = size (widths recordFields)
 
 -- ---- written
 
+-- what a record holds of a space: all but its m
 abbrev pub numbersOf : Space → List ℕ
 numbersOf x = x .id ∷ x .within ∷ x .kind ∷ x .standing ∷ 0 ∷ x .tonnage ∷ x .length .0 ∷ []
+
+-- "spaces are the same when all that their records hold is the same" (T-01), number by number: exactly where `numbersOf` gives the same
+-- (dayfile_laws, Records)
+pub record SameRecord (x y : Space) : Type 0 where
+  pub id : x .id ≡ y .id
+  pub enclosing-id : x .within ≡ y .within
+  pub kind : x .kind ≡ y .kind
+  pub standing : x .standing ≡ y .standing
+  pub tonnage : x .tonnage ≡ y .tonnage
+  pub length : x .length ≡ y .length
+
+-- "the same spaces, in the same order"
+pub data SameSpaces : List Space → List Space → Type 0 where
+  none : SameSpaces [] []
+  next : {x y : Space} {xs ys : List Space} → SameRecord x y → SameSpaces xs ys → SameSpaces (x ∷ xs) (y ∷ ys)
 
 abbrev pub recordBytes : Space → List ℕ
 recordBytes x = encoded (widths recordFields) (numbersOf x)
@@ -40,6 +57,7 @@ records (x ∷ xs) = recordBytes x ++ records xs
 abbrev pub recordNumbers : List ℕ → List ℕ
 recordNumbers bytes = decoded (widths recordFields) bytes
 
+-- the space of a record's numbers: it has no m
 abbrev pub spaceOf : List ℕ → Space
 spaceOf numbers =
     record {
@@ -47,6 +65,7 @@ spaceOf numbers =
       within = getD numbers 1 0;
       kind = getD numbers 2 0;
       standing = getD numbers 3 0;
+      m = 0;
       tonnage = getD numbers 5 0;
       length = hundredths (getD numbers 6 0);
     }

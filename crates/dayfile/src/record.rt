@@ -98,6 +98,7 @@ fn space_of(numbers: [u64; 7]) -> Space
             within: numbers[1] as u16,
             kind: numbers[2] as u8,
             standing: numbers[3] as u8,
+            m: 0,
             tonnage: numbers[5] as u32,
             length: Hundredths(numbers[6] as u32),
         };

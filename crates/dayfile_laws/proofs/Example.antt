@@ -24,11 +24,11 @@ use Rattle.dayfile_laws.proofs.WrittenRead.{length-bytes}
 abbrev pub wholeSheet : Sheet
 wholeSheet =
     sheetWith (hundredths 4800)
-    (record { id = 1; within = 0; kind = 1; standing = 0; tonnage = 11521; length = hundredths 4800 }
-    ∷ record { id = 2; within = 0; kind = 3; standing = 0; tonnage = 1280; length = hundredths 1600 }
-    ∷ record { id = 3; within = 1; kind = 5; standing = 2; tonnage = 400; length = hundredths 1000 }
-    ∷ record { id = 4; within = 2; kind = 5; standing = 3; tonnage = 320; length = hundredths 800 }
-    ∷ record { id = 5; within = 0; kind = 4; standing = 0; tonnage = 100; length = hundredths 500 }
+    (record { id = 1; within = 0; kind = 1; standing = 0; m = 4; tonnage = 11521; length = hundredths 4800 }
+    ∷ record { id = 2; within = 0; kind = 3; standing = 0; m = 0; tonnage = 1280; length = hundredths 1600 }
+    ∷ record { id = 3; within = 1; kind = 5; standing = 2; m = 0; tonnage = 400; length = hundredths 1000 }
+    ∷ record { id = 4; within = 2; kind = 5; standing = 3; m = 0; tonnage = 320; length = hundredths 800 }
+    ∷ record { id = 5; within = 0; kind = 4; standing = 0; m = 0; tonnage = 100; length = hundredths 500 }
     ∷ [])
 
 resumes : ResumableSheet wholeSheet

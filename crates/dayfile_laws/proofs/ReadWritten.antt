@@ -7,6 +7,7 @@ use lib.ListN.{length, take, drop, length-drop, take-append-drop, drop-of-length
 use lib.Seq.{take-all, drop-drop}
 use Rattle.measure.proofs.laws.Volumes.{at-most-drop}
 use Rattle.standard.specs.Gross.{gross, net}
+use Rattle.spaces.specs.Space.{allRecorded}
 use Rattle.spaces.specs.declared.space.Space.{Space}
 use Rattle.sheet.specs.Sheet.{standing}
 use Rattle.standard.specs.Records.{firstRefused}
@@ -18,9 +19,9 @@ use Rattle.dayfile.specs.Writing.{trailerFor, sheetBytes, writtenInto}
 use Rattle.dayfile.specs.Reading.{lastTrailer, startOf, lastRecords, faultIn, sheetIn, readOf, ReadingAccepted}
 use Rattle.dayfile.proofs.laws.Trailer.{tonnage-length-fits}
 use Rattle.dayfile.proofs.laws.Writing.{trailer-is}
-use Rattle.dayfile.proofs.laws.Reading.{Framed, framed, count-fits, judged, reading-accepted}
+use Rattle.dayfile.proofs.laws.Reading.{Framed, framed, count-fits, judged, reading-accepted, no-m}
 use Rattle.dayfile_laws.specs.Writing.{Puts}
-use Rattle.dayfile_laws.specs.Day.{ResumableSheet, Writable, asRead}
+use Rattle.dayfile_laws.specs.Day.{ResumableSheet, Writable, sheetWith}
 use Rattle.dayfile_laws.proofs.Records.{records-written, trailer-written}
 use Rattle.dayfile_laws.proofs.Resumed.{standing-same, length-same, has-200-places, made-again}
 use Rattle.dayfile_laws.proofs.Writing.{puts-its-bytes}
@@ -135,12 +136,15 @@ module _ (file : List ℕ) (read : readOf file .number ≡ 0) where
       ∙ ap (λ (l : List ℕ). file ++ l) (drop-of-length-le file {i = start + length last} (omega arith))
       ∙ append-nil file
 
-  read-again : asRead (readOf file .sheet) ≡ readOf file .sheet
+  read-again : sheetWith (readOf file .sheet .length) (standing (readOf file .sheet)) ≡ readOf file .sheet
   unfolding sheetIn
   read-again = rw (known .reading-is) (made-again (lastTrailer file .«tonnage_length») (spacesOf (lastRecords file)))
+
+  read-without-m : allRecorded (standing (readOf file .sheet)) ≡ standing (readOf file .sheet)
+  read-without-m = rw (known .reading-is, standing-is file known) (no-m (lastRecords file))
 
   -- what was read is the sheet of its records, with no open changes
   pub read-of-records : OfRecords (readOf file .sheet .length) (standing (readOf file .sheet)) (readOf file .sheet)
   read-of-records =
       let s = read-is-writable .sheet in
-      record { length-in-range = s .length-in-range; resumable = s .resumable; sheet-is = sym read-again }
+      record { length-in-range = s .length-in-range; resumable = s .resumable; without-m = read-without-m; sheet-is = sym read-again }

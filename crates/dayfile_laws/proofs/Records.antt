@@ -11,13 +11,15 @@ use lib.ListN.{length, take, drop, getD, length-drop}
 use lib.Seq.{drop-at, take-add}
 use Rattle.measure.specs.declared.units.Hundredths.{Hundredths}
 use Rattle.measure.proofs.laws.Volumes.{at-most-drop}
+use Rattle.measure.specs.Volumes.{hundredths}
+use Rattle.spaces.specs.Space.{recorded, allRecorded}
 use Rattle.spaces.specs.declared.space.Space.{Space}
 use Rattle.spaces.proofs.laws.Cases.{or-fails}
 use Rattle.spaces_laws.proofs.Lists.{_∈_}
 use Rattle.sheet.specs.declared.sheet.Sheet.{Sheet}
 use Rattle.dayfile.specs.Numbers.{Bytes}
 use Rattle.dayfile.specs.Fields.{widths, encoded, fitting}
-use Rattle.dayfile.specs.Record.{recordFields, recordSize, numbersOf, recordBytes, records, recordNumbers, spaceOf, recordsIn, spacesOf}
+use Rattle.dayfile.specs.Record.{recordFields, recordSize, numbersOf, SameRecord, SameSpaces, none as no-spaces, next, recordBytes, records, recordNumbers, spaceOf, recordsIn, spacesOf}
 use Rattle.dayfile.specs.Trailer.{trailerFields, trailerSize, numbersOfTrailer, trailerBytes, trailerNumbers, trailerRight, trailerOf}
 use Rattle.dayfile.specs.Writing.{trailerFor}
 use Rattle.dayfile.specs.Reading.{firstFaulty}
@@ -56,10 +58,24 @@ records-read (x ∷ xs) rest fit =
     ∙ ap (λ (bytes : List ℕ). numbersOf x ∷ recordsIn (length xs) bytes) (drop-at (recordBytes x) others recordSize (length-record x))
     ∙ ap (λ (later : List (List ℕ)). numbersOf x ∷ later) (records-read xs rest (λ y m. fit y (List·Memᴰ·tail m)))
 
--- the spaces of those numbers are the same
-pub spaces-of-numbers : (xs : List Space) → spacesOf (map numbersOf xs) ≡ xs
+-- the spaces of those numbers are the same but for their m
+pub spaces-of-numbers : (xs : List Space) → spacesOf (map numbersOf xs) ≡ allRecorded xs
 spaces-of-numbers [] = refl
-spaces-of-numbers (x ∷ xs) = ap (λ (l : List Space). x ∷ l) (spaces-of-numbers xs)
+spaces-of-numbers (x ∷ xs) = ap (λ (l : List Space). recorded x ∷ l) (spaces-of-numbers xs)
+
+-- "when all that their records hold is the same": exactly then the numbers of two spaces are the same
+pub same-numbers : {x y : Space} → SameRecord x y → numbersOf x ≡ numbersOf y
+same-numbers {x} {y} same = rw (same .id, same .enclosing-id, same .kind, same .standing, same .tonnage, same .length)
+
+pub same-record : {x y : Space} → numbersOf x ≡ numbersOf y → SameRecord x y
+same-record {x} {y} same =
+    let at : (i : ℕ) → getD (numbersOf x) i 0 ≡ getD (numbersOf y) i 0 = λ i. ap (λ (numbers : List ℕ). getD numbers i 0) same in
+    record { id = at 0; enclosing-id = at 1; kind = at 2; standing = at 3; tonnage = at 5; length = ap hundredths (at 6) }
+
+-- and so they are of a space and of what its record gives back
+pub recorded-same : (xs : List Space) → SameSpaces xs (allRecorded xs)
+recorded-same [] = no-spaces
+recorded-same (x ∷ xs) = next (same-record refl) (recorded-same xs)
 
 -- the trailer's likewise
 pub trailer-read : (s : Sheet) (justified : ℕ) → fitting trailerFields (numbersOfTrailer (trailerFor s justified)) ≡ true

@@ -1,4 +1,4 @@
--- The sheet that `resume` makes of some records, which reading answers. Stands on nothing of the file.
+-- The sheet of some spaces with no open changes, which reading answers. Stands on nothing of the file.
 use Prim.Native.Nat.{ℕ, _≤_}
 use mathlib.Core.Path.{_≡_, refl, ap, _∙_}
 use mathlib.Core.Bool.{true}
@@ -10,6 +10,8 @@ use lib.Seq.{take-append-seam}
 use Rattle.measure.specs.declared.units.Hundredths.{Hundredths}
 use Rattle.spaces.specs.Space.{emptySpace}
 use Rattle.spaces.specs.declared.space.Space.{Space}
+use Rattle.standard.specs.Gross.{reckoned}
+use Rattle.standard.specs.declared.gross.Reckoning.{Reckoning}
 use Rattle.sheet.specs.Sheet.{standing, usable, blank}
 use Rattle.sheet.specs.Calls.{counted, reported}
 use Rattle.sheet.specs.declared.sheet.Sheet.{Sheet}
@@ -42,8 +44,11 @@ module _ (L : Hundredths) (xs : List Space) where
   pub made-again : sheetWith (sheetWith L xs .length) (standing (sheetWith L xs)) ≡ sheetWith L xs
   made-again = ap (λ (l : Hundredths). sheetWith l (standing (sheetWith L xs))) length-same ∙ ap (sheetWith L) standing-same
 
--- a report asks no more of an open sheet than its standing spaces and its tonnage length
-pub same-report : (a b : Sheet) (justified : ℕ) → usable a ≡ true → usable b ≡ true → standing a ≡ standing b → a .length ≡ b .length
+-- a report asks no more of an open sheet than what is reckoned of its standing spaces, and its tonnage length
+pub same-report : (a b : Sheet) (justified : ℕ) → usable a ≡ true → usable b ≡ true → reckoned (standing a) ≡ reckoned (standing b) → a .length ≡ b .length
     → reported a justified .number ≡ reported b justified .number
 unfolding reported
-same-report a b justified ua ub es el = rw (ua, ub, es, el)
+same-report a b justified ua ub es el =
+    let lengths = ap (λ (r : Reckoning). r .lengths) es in
+    let mark = ap (λ (r : Reckoning). r .«needs_mark») es in
+    rw (ua, ub, lengths, mark, el)

@@ -6,13 +6,17 @@ use mathlib.Core.Bool.{true}
 use mathlib.Core.List.{List, [], _∷_, _++_, map, List·Memᴰ·head, List·Memᴰ·tail}
 use native.Mathlib.Omega.{arith}
 use borrow.Author.Tests.{eq-eqb}
-use lib.ListN.{length, take, drop}
+use lib.ListN.{length, take, drop, length-map}
 use lib.Seq.{length-take-le}
 use Rattle.measure.specs.declared.units.Hundredths.{Hundredths}
-use Rattle.standard.specs.Gross.{gross, net}
+use Rattle.standard.specs.Gross.{reckoned}
+use Rattle.standard.specs.declared.gross.Reckoning.{Reckoning}
+use Rattle.standard.specs.declared.records.RefusedRecord.{RefusedRecord}
+use Rattle.spaces.specs.Space.{recorded, allRecorded}
 use Rattle.spaces.specs.declared.space.Space.{Space}
 use Rattle.spaces_laws.proofs.Tests.{and-holds-of}
 use Rattle.spaces_laws.proofs.Lists.{_∈_}
+use Rattle.spaces_laws.proofs.Recorded.{first-refused-recorded, reckoned-recorded}
 use Rattle.sheet.specs.Sheet.{standing}
 use Rattle.sheet.specs.Calls.{reported}
 use Rattle.standard.specs.Records.{firstRefused}
@@ -32,13 +36,13 @@ use Rattle.dayfile_laws.specs.Reading.{ReadBack}
 use Rattle.dayfile_laws.specs.Day.{ResumableSheet, Writable, sheetWith, asRead}
 use Rattle.dayfile_laws.proofs.Fields.{InFields, fitting-of}
 use Rattle.dayfile_laws.proofs.LastSheet.{same-numbers, WholeSheet, trailer-behind, starts-behind, records-behind, framed-behind}
-use Rattle.dayfile_laws.proofs.Records.{Fits, records-read, spaces-of-numbers, trailer-read}
+use Rattle.dayfile_laws.proofs.Records.{Fits, records-read, spaces-of-numbers, recorded-same, trailer-read}
 use Rattle.dayfile_laws.proofs.Resumed.{standing-same, length-same, is-usable, same-report, none-open}
 use Rattle.dayfile_laws.proofs.Fitting.{in-range, each-fits, gross-at-most, net-at-most}
 use Rattle.dayfile_laws.proofs.Writing.{placed-up-to, write-accepted}
 
--- records that fit are handed to the sheet as they are
-each-read-as : (xs : List Space) → ((x : Space) → x ∈ xs → Fits x) → eachReadAs (map numbersOf xs) ≡ xs
+-- records that fit are handed to the sheet as they are, but for their m
+each-read-as : (xs : List Space) → ((x : Space) → x ∈ xs → Fits x) → eachReadAs (map numbersOf xs) ≡ allRecorded xs
 unfolding readAs
 each-read-as [] fit = refl
 each-read-as (x ∷ xs) fit = rw (fit x (List·Memᴰ·head refl), each-read-as xs (λ y m. fit y (List·Memᴰ·tail m)))
@@ -46,7 +50,9 @@ each-read-as (x ∷ xs) fit = rw (fit x (List·Memᴰ·head refl), each-read-as 
 -- so none is faulty that `resume` accepts
 none-faulty : (L : Hundredths) (xs : List Space) → ((x : Space) → x ∈ xs → Fits x) → firstRefused L [] xs .number ≡ 0
     → firstFaulty L [] (map numbersOf xs) ≡ 0
-none-faulty L xs fit none = judged L [] (map numbersOf xs) .none-faulty (rw (each-read-as xs fit) none)
+none-faulty L xs fit none =
+    judged L [] (map numbersOf xs) .none-faulty
+    (rw (each-read-as xs fit) (ap (λ (r : RefusedRecord). r .number) (first-refused-recorded L [] xs) ∙ none))
 
 -- ---- written, then read
 
@@ -83,12 +89,18 @@ module _ (s : Sheet) (justified : ℕ) (w : Writable s justified) where
   unfolding trailerRight
   trailer-right = and-holds-of _ _ trailer-fits (eq-eqb (sheetSize (s .count)) _ refl)
 
-  -- the sheet read gives the same report
+  -- the sheet read gives the same report, since nothing that is reckoned looks at m
+  pub few-recorded : length (allRecorded (standing s)) ≤ 200
+  few-recorded = omega (arith, length-map (standing s) recorded, at-most-200)
+
+  same-reckoning : reckoned (standing (asRead s)) ≡ reckoned (standing s)
+  same-reckoning = ap reckoned (standing-same (s .length) (allRecorded (standing s))) ∙ reckoned-recorded (standing s)
+
   reports-again : reported (asRead s) justified .number ≡ 0
   reports-again =
-      same-report (asRead s) s justified (is-usable (s .length) (standing s) at-most-200) (report-given .is-usable)
-      (standing-same (s .length) (standing s))
-      (length-same (s .length) (standing s))
+      same-report (asRead s) s justified (is-usable (s .length) (allRecorded (standing s)) few-recorded) (report-given .is-usable)
+      same-reckoning
+      (length-same (s .length) (allRecorded (standing s)))
       ∙ w .reports
 
   numbers-at-end : lastNumbers (sheetBytes s justified) ≡ numbersOfTrailer (trailerFor s justified)
@@ -140,9 +152,9 @@ module _ (s : Sheet) (justified : ℕ) (w : Writable s justified) where
     pub written-then-read : readOf (pre ++ sheetBytes s justified) ≡ acceptedReading (asRead s) justified (length pre)
     written-then-read =
         let t = trailerFor s justified in
-        let same = standing-same (s .length) (standing s) in
+        let same = same-reckoning in
         sym
-        (same-figures (asRead s) t (length pre) reports-again (ap gross same) (ap net same)
+        (same-figures (asRead s) t (length pre) reports-again (ap (λ (r : Reckoning). r .gross) same) (ap (λ (r : Reckoning). r .net) same)
         ∙ read-judged file (asRead s) t (length pre) (sym sheet-is) (sym trailer-is) (sym (starts-behind whole pre)) (framed-behind whole pre) no-fault)
 
 -- ---- the same in the paper's words
@@ -150,15 +162,17 @@ module _ (s : Sheet) (justified : ℕ) (w : Writable s justified) where
 pub has-read-back : (s : Sheet) (justified start : ℕ) → Writable s justified → ReadBack s justified start (acceptedReading (asRead s) justified start)
 has-read-back s justified start w =
     let L = s .length in
-    let xs = standing s in
+    let xs = allRecorded (standing s) in
+    let few = few-recorded s justified w in
     record {
       accepted = refl;
-      same-spaces = standing-same L xs;
+      same-spaces = rw (standing-same L xs) (recorded-same (standing s));
+      without-m = standing-same L xs;
       same-length = length-same L xs;
       same-mark = refl;
-      is-open = is-usable L xs (at-most-200 s justified w);
-      none-undoable = none-open L xs (at-most-200 s justified w) .0;
-      none-redoable = none-open L xs (at-most-200 s justified w) .1;
+      is-open = is-usable L xs few;
+      none-undoable = none-open L xs few .0;
+      none-redoable = none-open L xs few .1;
       starts = refl;
     }
 

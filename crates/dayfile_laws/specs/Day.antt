@@ -6,6 +6,7 @@ use mathlib.Core.List.{List, [], _∷_}
 use lib.ListN.{length}
 use Rattle.measure.specs.declared.units.Hundredths.{Hundredths}
 use Rattle.measure.specs.Ranges.{includes, tonnageLengths}
+use Rattle.spaces.specs.Space.{allRecorded}
 use Rattle.spaces.specs.declared.space.Space.{Space}
 use Rattle.sheet.specs.Sheet.{standing, blank}
 use Rattle.sheet.specs.Changes.{withStanding}
@@ -34,13 +35,13 @@ AllWritable (first ∷ later) = Writable (first .0) (first .1) × AllWritable la
 
 -- ---- read
 
--- the sheet that `resume` makes of some records with a tonnage length
+-- the sheet of some spaces with a tonnage length, on which no change is open yet
 abbrev pub sheetWith : Hundredths → List Space → Sheet
 sheetWith L xs = withStanding xs (blank true L)
 
--- a sheet as it is read: open, with the same spaces and tonnage length, and no open changes
+-- a sheet as it is read: open, with the same spaces but for their m, the same tonnage length, and no open changes
 abbrev pub asRead : Sheet → Sheet
-asRead s = sheetWith (s .length) (standing s)
+asRead s = sheetWith (s .length) (allRecorded (standing s))
 
 -- what reading gives of each, in the order they were written, the first from `start` on and each other where the one before it ends
 abbrev pub readings : ℕ → List (Sheet × ℕ) → List Reading

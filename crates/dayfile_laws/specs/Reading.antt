@@ -3,16 +3,19 @@ use Prim.Native.Nat.{ℕ}
 use mathlib.Core.Path.{_≡_}
 use mathlib.Core.Bool.{true, cond}
 use lib.Dec.{eqb}
+use Rattle.spaces.specs.Space.{allRecorded}
 use Rattle.sheet.specs.Sheet.{standing, usable}
 use Rattle.sheet.specs.Calls.{counted}
 use Rattle.sheet.specs.declared.sheet.Sheet.{Sheet}
+use Rattle.dayfile.specs.Record.{SameSpaces}
 use Rattle.dayfile.specs.declared.reading.Reading.{Reading}
 
 -- a reading has what was written with a mark from a place on
 pub record ReadBack (s : Sheet) (justified start : ℕ) (r : Reading) : Type 0 where
   pub accepted : r .number ≡ 0
-  -- the same spaces, in the same order
-  pub same-spaces : standing (r .sheet) ≡ standing s
+  -- the same spaces, in the same order: each standing space, its m gone
+  pub same-spaces : SameSpaces (standing s) (standing (r .sheet))
+  pub without-m : standing (r .sheet) ≡ allRecorded (standing s)
   pub same-length : r .sheet .length ≡ s .length
   pub same-mark : r .justified ≡ justified
   -- "The sheet read is open, with no open changes."

@@ -2,8 +2,8 @@
 -- its number from the paper, changes neither sheet nor buffer, and is given exactly when the paper says."
 -- That every call ends and stays inside what it was lent is what the check proves of each function; and no public function asks
 -- anything of what it is given (NoSecondAnswer), so nobody has to check first. Here is what the check doesn't say. When a call is to be
--- refused, each of its numbers with the condition, is in specs/Refusals. Stands on Tests.
-use Prim.Native.Nat.{ℕ, _-_}
+-- refused, each of its numbers with the condition, is in specs/Refusals. Stands on Tests, Reached.
+use Prim.Native.Nat.{ℕ, _-_, _<_}
 use mathlib.Core.Path.{_≡_, refl, sym, ap, _∙_}
 use mathlib.Core.Bool.{Bool, true, false, cond, not}
 use mathlib.Core.List.{List, [], _∷_}
@@ -16,17 +16,23 @@ use Rattle.measure.specs.Kinds.{kindOf}
 use Rattle.measure.specs.Ranges.{includes, tonnageLengths}
 use Rattle.measure.specs.Refusals.{firstOf}
 use Rattle.measure.specs.Offsets.{inRange, counted as rightlyCounted, measured}
+use Rattle.measure.specs.Tanks.{tankInRange, layOutNumber, laidOut}
+use Rattle.measure.proofs.laws.Refusals.{spliced}
 use Rattle.standard.specs.Rules.{entryTests}
+use Rattle.standard.specs.Tanks.{tankTests, tankNumber}
+use Rattle.spaces_laws.proofs.Tanks.{tank-never-7, tank-never-8, none-without-m}
 use Rattle.standard.specs.Gross.{gross, net}
 use Rattle.spaces.specs.declared.space.Space.{Space}
 use Rattle.spaces.proofs.laws.Cases.{by-test}
 use Rattle.sheet.specs.Sheet.{standing, usable, blank}
-use Rattle.sheet.specs.Calls.{openedWith, entered, withdrawn, marked, undone, redone, counted, reported}
+use Rattle.sheet.specs.Calls.{spaceOf, openedWith, entered, withdrawn, marked, undone, redone, counted, reported}
 use Rattle.standard.specs.Records.{recordNumber, firstRefused}
 use Rattle.sheet.specs.Resume.{resumed}
 use Rattle.sheet.specs.declared.sheet.Sheet.{Sheet}
+use Rattle.sheet.specs.Tanks.{tankIn, sectionsWrong, tankEntered}
 use Rattle.sheet.specs.declared.calls.Entry.{Entry}
-use Rattle.sheet_laws.specs.Run.{spaceOf}
+use Rattle.sheet.specs.declared.tanks.Tank.{Tank}
+use Rattle.sheet_laws.proofs.Accepted.{tank-accepted, a-room}
 use Rattle.sheet_laws.proofs.Runs.{refused-changes-nothing}
 use Rattle.dayfile.specs.Trailer.{sheetSize}
 use Rattle.dayfile.specs.Writing.{writeNumber, written, writtenInto}
@@ -39,10 +45,11 @@ use Rattle.dayfile_laws.specs.Faults.{FaultExactly}
 use Rattle.dayfile_laws.proofs.Resumed.{is-usable}
 use Rattle.dayfile_laws.proofs.Faults.{fault-exactly}
 use Rattle.dayfile_laws.proofs.ReadWritten.{length-spaces}
-use Rattle.demands.specs.Reached.{DayCall, call, write, handedBack, numberOf}
+use Rattle.demands.specs.Reached.{DayCall, call, write, handedBack, numberOf, Begun, Reached}
 use Rattle.demands.specs.Tests.{FirstGiven, LowestGiven}
-use Rattle.demands.specs.Refusals.{openTests, enterTests, withdrawalTests, markingTests, undoTests, redoTests, lengthsShort, ballastUnjustified, reportTests, writeTests, figuresWrong, readTests, recordTests, Given17, NothingRead}
-use Rattle.demands.proofs.Tests.{first-given, lowest-given, spliced, either}
+use Rattle.demands.specs.Refusals.{openTests, enterTests, enterTankTests, layOutTests, withdrawalTests, markingTests, undoTests, redoTests, lengthsShort, ballastUnjustified, reportTests, writeTests, figuresWrong, readTests, recordTests, Given17, NothingRead}
+use Rattle.demands.proofs.Reached.{begun-without-m, reached-resumable}
+use Rattle.demands.proofs.Tests.{first-given, lowest-given, either}
 
 -- ---- "is given exactly when the paper says": for any sheet and any numbers
 
@@ -67,6 +74,52 @@ enter-refused s e heights breadths =
     (ap (λ (n : ℕ). cond (ltb 3 (e .standing)) 2 n) (spliced ((out, 2) ∷ (wrong, 3) ∷ []) rest (omega arith))
     ∙ either (ltb 3 (e .standing)) out 2 ((wrong, 3) ∷ rest)) in
     rw same (lowest-given (enterTests s e heights breadths) (omega arith))
+
+pub enter-tank-refused : (s : Sheet) (k : Tank) (depths breadths : List ℕ)
+    → LowestGiven (enterTankTests s k depths breadths) (tankEntered s k depths breadths .number)
+unfolding tankEntered
+enter-tank-refused s k depths breadths =
+    let out = not (tankInRange (k .length) (k .fore) depths breadths) in
+    let wrong = sectionsWrong (s .length) (standing s) k depths breadths in
+    let rest = tankTests (s .length) (standing s) (tankIn (s .length) (standing s) k depths breadths) (k .fore) in
+    let same : tankEntered s k depths breadths .number ≡ firstOf (enterTankTests s k depths breadths) =
+    ap (λ (n : ℕ). cond (not (usable s)) 1 n) (either (ltb 3 (k .standing)) out 2 ((wrong, 3) ∷ rest)) in
+    rw same (lowest-given (enterTankTests s k depths breadths) (omega arith))
+
+-- "7 and 8 never come from a tank, since a U is at level 1 and plain": on no sheet that calls can reach
+pub tank-never-7-or-8 : {s : Sheet} → Reached s → (k : Tank) (depths breadths : List ℕ)
+    → (tankEntered s k depths breadths .number ≡ 7 → ⊥) × (tankEntered s k depths breadths .number ≡ 8 → ⊥)
+unfolding tankEntered tankNumber
+tank-never-7-or-8 {s} r k depths breadths =
+    let v = reached-resumable r .resumable .valid in
+    let x = tankIn (s .length) (standing s) k depths breadths in
+    let room = a-room (s .length) (standing s) k depths breadths in
+    let low : (n : ℕ) → 3 < n → tankEntered s k depths breadths .number ≡ n → tankNumber (s .length) (standing s) x (k .fore) ≡ n =
+    after-3 (not (usable s)) (ltb 3 (k .standing)) (not (tankInRange (k .length) (k .fore) depths breadths)) (sectionsWrong (s .length) (standing s) k depths breadths)
+    (tankTests (s .length) (standing s) x (k .fore)) in
+    (λ e. tank-never-7 v x (k .fore) room (low 7 (omega arith) e), λ e. tank-never-8 v x (k .fore) room (low 8 (omega arith) e))
+  where
+    -- a number over 3 is that of the tests behind those of 1 to 3
+    after-3 : (a b c d : Bool) (tests : List (Bool × ℕ)) (n : ℕ) → 3 < n → firstOf ((a, 1) ∷ (b, 2) ∷ (c, 2) ∷ (d, 3) ∷ tests) ≡ n → firstOf tests ≡ n
+    after-3 true b c d tests n over e = absurd (omega arith)
+    after-3 false true c d tests n over e = absurd (omega arith)
+    after-3 false false true d tests n over e = absurd (omega arith)
+    after-3 false false false true tests n over e = absurd (omega arith)
+    after-3 false false false false tests n over e = e
+
+-- "a U that came from a file takes no tank until it is entered anew": none is accepted on a sheet just read, nor on one just opened
+pub none-at-first : {L : Hundredths} {start : List Space} {first : Sheet} → Begun L start first → (k : Tank) (depths breadths : List ℕ)
+    → tankEntered first k depths breadths .number ≡ 0 → ⊥
+none-at-first {first = first} begun k depths breadths z =
+    let x = tankIn (first .length) (standing first) k depths breadths in
+    let number = tank-accepted first k depths breadths z .number in
+    none-without-m (first .length) (standing first) x (k .fore) (a-room (first .length) (standing first) k depths breadths)
+    (ap (λ (xs : List Space). tankNumber (first .length) xs x (k .fore)) (begun-without-m begun) ∙ number)
+
+-- "where to measure"
+pub lay-out-refused : (t u l f : Hundredths) → LowestGiven (layOutTests t u l f) (laidOut t u l f .number)
+unfolding laidOut layOutNumber
+lay-out-refused t u l f = lowest-given (layOutTests t u l f) (omega arith)
 
 pub withdraw-refused : (s : Sheet) (id : ℕ) → LowestGiven (withdrawalTests s id) (withdrawn s id .number)
 unfolding withdrawn
@@ -210,6 +263,11 @@ refused-resume-gives L records refused =
     by-test (includes tonnageLengths L.0)
     (λ t. by-test (eqb (firstRefused L [] records .number) 0) (λ u. absurd (refused (rw (t, u)))) (λ f. rw (t, f)))
     (λ f. rw f)
+
+-- where no tank may be measured there are no parts and no sections
+pub refused-lay-out-gives : (t u l f : Hundredths) → (laidOut t u l f .number ≡ 0 → ⊥) → (laidOut t u l f .parts ≡ 0) × (laidOut t u l f .sections ≡ 0)
+unfolding laidOut
+refused-lay-out-gives t u l f refused = let e = ne-eqb _ 0 refused in (rw e, rw e)
 
 -- "Both counts can be asked for and are 0 on a sheet not open."
 pub counts-when-not-open : (s : Sheet) → usable s ≡ false → (counted s .undoable ≡ 0) × (counted s .redoable ≡ 0)

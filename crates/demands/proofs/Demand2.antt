@@ -4,38 +4,53 @@
 -- Stands on Reached. t is the tonnage length and l the space's length; parts, multipliers and areas are defined in measure/specs.
 use Prim.Native.Nat.{ℕ, _+_, _*_, _≤_, _<_}
 use mathlib.Core.Path.{_≡_, refl, sym, ap, _∙_}
+use mathlib.Core.Bool.{false, not}
 use mathlib.Core.List.{List, [], _∷_, _++_}
 use native.Mathlib.Omega.{arith}
-use borrow.Author.Tests.{le-leb}
+use borrow.Author.Tests.{not-true, not-false, le-leb}
 use lib.ListN.{length, take, drop}
 use Rattle.measure.specs.Kinds.{kindOf}
 use Rattle.measure.specs.Rounding.{Nearest}
 use Rattle.measure.specs.Parts.{tableParts, underDeckParts, depthParts, superstructureParts, NearestEven}
 use Rattle.measure.specs.Thirds.{thirdOfLength, thirdOfDepth}
 use Rattle.measure.specs.Multipliers.{weighted, total}
+use Rattle.measure.specs.Sections.{layoutOf, doubled}
+use Rattle.measure.specs.Tanks.{taken, passesEnd, hasM, tankVolume, measuredTank}
 use Rattle.measure.specs.Volumes.{tons, areas, underDeckVolume, levelVolume, boxVolume}
 use Rattle.measure.specs.Offsets.{middleOf, volume, tonnage, measured}
 use Rattle.measure.specs.declared.units.Hundredths.{Hundredths}
 use Rattle.measure.specs.declared.kinds.Kind.{Kind}
+use Rattle.measure.specs.declared.offsets.Measured.{Measured}
 use Rattle.measure.specs.declared.kinds.Kind.the-variants.{UnderDeck, BetweenDeck, Superstructure, Hatchway, Room, NoKind}
+use Rattle.measure.proofs.laws.Tests.{and-left, and-right}
 use Rattle.measure_laws.proofs.Rounding.{nearest-is}
 use Rattle.measure_laws.proofs.Parts.{nearest-parts-is}
+use Rattle.measure_laws.specs.Tanks.{AnsweredTank, with-2, with-9, with-29, with-3, with-0}
 use Rattle.measure_laws.proofs.Offsets.{measured-exactly}
+use Rattle.measure_laws.proofs.Tanks.{measured-tank-is, measured-tank-only}
 use Rattle.spaces.specs.Row.{sumOf}
+use Rattle.spaces.specs.declared.space.Space.{Space}
+use Rattle.standard.specs.Rules.{entryNumber}
+use Rattle.standard.specs.Tanks.{underDeckWith}
+use Rattle.standard.specs.Records.{misrecorded}
 use Rattle.spaces.specs.declared.sums.Amount.the-variants.{Deducted}
 use Rattle.spaces_laws.proofs.Valid.{valid-is-sound}
 use Rattle.spaces_laws.proofs.Report.{report-exact, gross-exactly}
+use Rattle.spaces_laws.proofs.Tests.{and-fails}
+use Rattle.spaces_laws.proofs.Tanks.{facts-of-tank, measurable-there, tank-is-room}
 use Rattle.sheet.specs.Sheet.{standing}
 use Rattle.sheet.specs.Changes.{fitted, noted}
-use Rattle.sheet.specs.Calls.{entryOf, entered, reported}
+use Rattle.sheet.specs.Calls.{changed, entryOf, spaceOf, entered, reported}
+use Rattle.sheet.specs.Tanks.{tankOf, tankIn, tankEntered}
 use Rattle.sheet.specs.declared.sheet.Sheet.{Sheet}
 use Rattle.sheet.specs.declared.calls.Entry.{Entry}
+use Rattle.sheet.specs.declared.tanks.Tank.{Tank}
+use Rattle.sheet.specs.declared.changes.Change.the-variants.{Entered}
 use Rattle.sheet.proofs.laws.Report.{given}
-use Rattle.sheet_laws.specs.Run.{spaceOf}
 use Rattle.sheet_laws.proofs.History.{stand-in-places}
 use Rattle.sheet_laws.proofs.Runs.{handed-next}
-use Rattle.sheet_laws.proofs.Resumable.{resumable-entered, entry-well-recorded}
-use Rattle.sheet_laws.proofs.Accepted.{enter-accepted}
+use Rattle.sheet_laws.proofs.Resumable.{resumable-entered, entry-well-recorded, tank-well-recorded}
+use Rattle.sheet_laws.proofs.Accepted.{enter-accepted, tank-accepted, a-room}
 use Rattle.dayfile.specs.Numbers.{Bytes}
 use Rattle.dayfile.specs.Writing.{written, writtenInto}
 use Rattle.dayfile.specs.Reading.{readOf}
@@ -46,7 +61,7 @@ use Rattle.dayfile_laws.proofs.Writing.{write-accepted}
 use Rattle.dayfile_laws.proofs.WrittenRead.{has-read-back, written-anywhere}
 use Rattle.dayfile_laws.proofs.ReadWritten.{written-back}
 use Rattle.demands.specs.Reached.{Reached}
-use Rattle.demands.specs.Figures.{EnteredLast, GrossAndNet}
+use Rattle.demands.specs.Figures.{EnteredLast, TankEnteredLast, GrossAndNet}
 use Rattle.demands.proofs.Reached.{reached-resumable}
 
 -- ---- third intervals and parts
@@ -124,20 +139,74 @@ pub tonnage-of-R : (t l : Hundredths) (height breadth : ℕ) → measured 5 t l 
 unfolding kindOf boxVolume
 tonnage-of-R t l height breadth z = rounded-once 5 t l (height ∷ []) (breadth ∷ []) z
 
+-- a tank: "Its length is divided as an S is, with that U's interval as the reference", of a U of the length u
+pub parts-of-tank : (t u l f : Hundredths) → NearestEven u (underDeckParts t u) l (layoutOf t u l f .p)
+unfolding layoutOf
+parts-of-tank t u l f = nearest-parts-is u (underDeckParts t u) l
+
+-- "A section's area is a station's area with the U's m. Of two at one station the larger area is taken"; "the multipliers over the p+1
+-- areas, times the third interval of the tank's length in p parts; rounded once". `doubled` says which stations have two sections.
+pub tonnage-of-tank : (t u : Hundredths) (m : ℕ) (l f : Hundredths) (depths breadths : List ℕ) → measuredTank t u m l f depths breadths .number ≡ 0
+    → let a = layoutOf t u l f in
+    Nearest (weighted (a .p) (taken (doubled a) (areas m depths breadths)) * thirdOfLength l (a .p) .0) (100 * 100 * 1000)
+    (measuredTank t u m l f depths breadths .tonnage)
+unfolding layoutOf tankVolume tons
+tonnage-of-tank t u m l f depths breadths z = by (measured-tank-is t u m l f depths breadths) z
+  where
+    by : {r : Measured} → AnsweredTank t u m l f depths breadths r → r .number ≡ 0
+        → let a = layoutOf t u l f in
+        Nearest (weighted (a .p) (taken (doubled a) (areas m depths breadths)) * thirdOfLength l (a .p) .0) (100 * 100 * 1000) (r .tonnage)
+    by (with-2 _) e = absurd (omega arith)
+    by (with-9 _ _) e = absurd (omega arith)
+    by (with-29 _ _ _) e = absurd (omega arith)
+    by (with-3 _ _ _ _) e = absurd (omega arith)
+    by (with-0 _ _ _ _) e = nearest-is _ (100 * 100 * 1000) (omega arith)
+
 -- ---- on a sheet
+
+-- a space that the rules accept is put last
+put-last : {s : Sheet} → Reached s → (x : Space) → misrecorded x ≡ false → entryNumber (s .length) (standing s) x ≡ 0
+    → standing (changed (Entered x) s) ≡ standing s ++ (x ∷ [])
+unfolding fitted noted
+put-last {s} r x well accepted =
+    let fits = valid-is-sound (resumable-entered x (reached-resumable r .resumable) well accepted .valid) .at-most-200 in
+    rw (le-leb (length (standing s ++ (x ∷ []))) 200 fits) (stand-in-places (standing s ++ (x ∷ [])) s)
 
 -- an accepted entry puts the space with its tonnage last
 pub entered-last : {s : Sheet} → Reached s → (e : Entry) (heights breadths : List ℕ) → entered s e heights breadths .number ≡ 0
     → EnteredLast s e heights breadths
-unfolding entered entryOf fitted noted
+unfolding entered entryOf
 entered-last {s} r e heights breadths z =
     let x = spaceOf (s .length) e heights breadths in
     let (offsets, taken) = enter-accepted s e heights breadths z in
-    let well = entry-well-recorded (s .length) e heights breadths offsets in
-    let fits = valid-is-sound (resumable-entered x (reached-resumable r .resumable) well taken .valid) .at-most-200 in
     record {
       offsets-accepted = offsets;
-      stands-last = ap standing (handed-next _ s _ z) ∙ rw (le-leb (length (standing s ++ (x ∷ []))) 200 fits) (stand-in-places (standing s ++ (x ∷ [])) s);
+      stands-last = ap standing (handed-next _ s _ z) ∙ put-last r x (entry-well-recorded (s .length) e heights breadths offsets) taken;
+      with-its-tonnage = refl;
+    }
+
+-- and so does an accepted tank, inside its U
+pub tank-entered-last : {s : Sheet} → Reached s → (k : Tank) (depths breadths : List ℕ) → tankEntered s k depths breadths .number ≡ 0
+    → TankEnteredLast s k depths breadths
+unfolding tankEntered tankOf
+tank-entered-last {s} r k depths breadths z =
+    let L = s .length in
+    let xs = standing s in
+    let x = tankIn L xs k depths breadths in
+    let room = a-room L xs k depths breadths in
+    let accepted = tank-accepted s k depths breadths z in
+    let facts = facts-of-tank L xs x (k .fore) room (accepted .number) in
+    let last = tank-is-room L xs x (k .fore) room (accepted .number) in
+    let u = underDeckWith (k .within) xs in
+    let there = measurable-there facts in
+    let known = and-left (hasM (u .m)) (not (passesEnd (u .length) (k .length) (k .fore))) there in
+    let inside = not-true _ (and-right (hasM (u .m)) (not (passesEnd (u .length) (k .length) (k .fore))) there) in
+    let complete = not-false _ (and-fails _ _ (accepted .sections-right) there) in
+    let answer = measured-tank-only L (u .length) (u .m) (k .length) (k .fore) depths breadths _ (with-0 (accepted .in-range) inside known complete) in
+    record {
+      inside-its-U = facts;
+      sections-accepted = sym (ap (λ (r : Measured). r .number) answer);
+      stands-last = ap standing (handed-next _ s _ z) ∙ put-last r x (tank-well-recorded L xs k depths breadths (accepted .in-range)) last;
       with-its-tonnage = refl;
     }
 

@@ -50,6 +50,10 @@ pub measure-breadths-at-station :
     One measure.offsets.breadths_at_station.ended measure.offsets.breadths_at_station.Reads.Asked measure.offsets.breadths_at_station.Reads.Learnt
 measure-breadths-at-station _ = record { nothing-asked = tt; one-answer = agree; one-left = λ p q. refl }
 
+pub measure-m-of :
+    One measure.offsets.m_of.ended measure.offsets.m_of.Reads.Asked measure.offsets.m_of.Reads.Learnt
+measure-m-of _ = record { nothing-asked = tt; one-answer = agree; one-left = λ p q. refl }
+
 pub measure-tonnage-length-fits :
     One measure.ranges.tonnage_length_fits.ended measure.ranges.tonnage_length_fits.Reads.Asked measure.ranges.tonnage_length_fits.Reads.Learnt
 measure-tonnage-length-fits _ = record { nothing-asked = tt; one-answer = agree; one-left = λ p q. refl }
@@ -57,6 +61,26 @@ measure-tonnage-length-fits _ = record { nothing-asked = tt; one-answer = agree;
 pub measure-length-fits :
     One measure.ranges.length_fits.ended measure.ranges.length_fits.Reads.Asked measure.ranges.length_fits.Reads.Learnt
 measure-length-fits _ = record { nothing-asked = tt; one-answer = agree; one-left = λ p q. refl }
+
+pub measure-tank :
+    One measure.tanks.measure_tank.ended measure.tanks.measure_tank.Reads.Asked measure.tanks.measure_tank.Reads.Learnt
+measure-tank _ = record { nothing-asked = tt; one-answer = agree; one-left = λ p q. refl }
+
+pub measure-passes-end :
+    One measure.tanks.passes_end.ended measure.tanks.passes_end.Reads.Asked measure.tanks.passes_end.Reads.Learnt
+measure-passes-end _ = record { nothing-asked = tt; one-answer = agree; one-left = λ p q. refl }
+
+pub measure-has-m :
+    One measure.tanks.has_m.ended measure.tanks.has_m.Reads.Asked measure.tanks.has_m.Reads.Learnt
+measure-has-m _ = record { nothing-asked = tt; one-answer = agree; one-left = λ p q. refl }
+
+pub measure-lay-out :
+    One measure.tanks.lay_out.ended measure.tanks.lay_out.Reads.Asked measure.tanks.lay_out.Reads.Learnt
+measure-lay-out _ = record { nothing-asked = tt; one-answer = agree; one-left = λ p q. refl }
+
+pub measure-section-station :
+    One measure.tanks.section_station.ended measure.tanks.section_station.Reads.Asked measure.tanks.section_station.Reads.Learnt
+measure-section-station _ = record { nothing-asked = tt; one-answer = agree; one-left = λ p q. refl }
 
 pub measure-divided :
     One measure.thirds.divided.ended measure.thirds.divided.Reads.Asked measure.thirds.divided.Reads.Learnt
@@ -136,6 +160,14 @@ pub standard-may-take :
     One standard.standings.may_take.ended standard.standings.may_take.Reads.Asked standard.standings.may_take.Reads.Learnt
 standard-may-take _ = record { nothing-asked = tt; one-answer = agree; one-left = λ p q. refl }
 
+pub standard-under-deck-with :
+    One standard.tanks.under_deck_with.ended standard.tanks.under_deck_with.Reads.Asked standard.tanks.under_deck_with.Reads.Learnt
+standard-under-deck-with _ = record { nothing-asked = tt; one-answer = agree; one-left = λ p q. refl }
+
+pub standard-tank-number :
+    One standard.tanks.tank_number.ended standard.tanks.tank_number.Reads.Asked standard.tanks.tank_number.Reads.Learnt
+standard-tank-number _ = record { nothing-asked = tt; one-answer = agree; one-left = λ p q. refl }
+
 -- sheet
 pub sheet-open :
     One sheet.sheet.Sheet.open.ended sheet.sheet.Sheet.open.Reads.Asked sheet.sheet.Sheet.open.Reads.Learnt
@@ -196,6 +228,10 @@ sheet-places _ = record { nothing-asked = tt; one-answer = agree; one-left = λ 
 pub sheet-is-open :
     One sheet.sheet.Sheet.is_open.ended sheet.sheet.Sheet.is_open.Reads.Asked sheet.sheet.Sheet.is_open.Reads.Learnt
 sheet-is-open _ = record { nothing-asked = tt; one-answer = agree; one-left = λ p q. refl }
+
+pub sheet-enter-tank :
+    One sheet.sheet.Sheet.enter_tank.ended sheet.sheet.Sheet.enter_tank.Reads.Asked sheet.sheet.Sheet.enter_tank.Reads.Learnt
+sheet-enter-tank _ = record { nothing-asked = tt; one-answer = agree; one-left = λ p q. refl }
 
 -- dayfile
 pub dayfile-read :
@@ -314,6 +350,10 @@ pub fummidrake-enter :
     One fummidrake.fummidrake_enter.ended fummidrake.fummidrake_enter.Reads.Asked fummidrake.fummidrake_enter.Reads.Learnt
 fummidrake-enter _ = record { nothing-asked = tt; one-answer = agree; one-left = λ p q. refl }
 
+pub fummidrake-enter-tank :
+    One fummidrake.fummidrake_enter_tank.ended fummidrake.fummidrake_enter_tank.Reads.Asked fummidrake.fummidrake_enter_tank.Reads.Learnt
+fummidrake-enter-tank _ = record { nothing-asked = tt; one-answer = agree; one-left = λ p q. refl }
+
 pub fummidrake-withdraw :
     One fummidrake.fummidrake_withdraw.ended fummidrake.fummidrake_withdraw.Reads.Asked fummidrake.fummidrake_withdraw.Reads.Learnt
 fummidrake-withdraw _ = record { nothing-asked = tt; one-answer = agree; one-left = λ p q. refl }
@@ -361,6 +401,14 @@ fummidrake-stations _ = record { nothing-asked = tt; one-answer = agree; one-lef
 pub fummidrake-breadths-at-station :
     One fummidrake.fummidrake_breadths_at_station.ended fummidrake.fummidrake_breadths_at_station.Reads.Asked fummidrake.fummidrake_breadths_at_station.Reads.Learnt
 fummidrake-breadths-at-station _ = record { nothing-asked = tt; one-answer = agree; one-left = λ p q. refl }
+
+pub fummidrake-lay-out :
+    One fummidrake.fummidrake_lay_out.ended fummidrake.fummidrake_lay_out.Reads.Asked fummidrake.fummidrake_lay_out.Reads.Learnt
+fummidrake-lay-out _ = record { nothing-asked = tt; one-answer = agree; one-left = λ p q. refl }
+
+pub fummidrake-section-station :
+    One fummidrake.fummidrake_section_station.ended fummidrake.fummidrake_section_station.Reads.Asked fummidrake.fummidrake_section_station.Reads.Learnt
+fummidrake-section-station _ = record { nothing-asked = tt; one-answer = agree; one-left = λ p q. refl }
 
 pub fummidrake-write :
     One fummidrake.fummidrake_write.ended fummidrake.fummidrake_write.Reads.Asked fummidrake.fummidrake_write.Reads.Learnt

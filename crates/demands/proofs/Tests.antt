@@ -2,15 +2,16 @@
 use Prim.Native.Nat.{ℕ, _<_, _≤_}
 use mathlib.Core.Path.{_≡_, refl}
 use mathlib.Core.Logic.{⊎-elim}
-use mathlib.Core.Bool.{Bool, true, false, not, _||_}
-use mathlib.Core.List.{List, [], _∷_, _++_}
+use mathlib.Core.Bool.{Bool, true, false, _||_}
+use mathlib.Core.List.{List, [], _∷_}
 use native.Mathlib.Omega.{arith}
-use borrow.Author.Tests.{ne-eqb, eqb-true, eqb-false}
+use borrow.Author.Tests.{eqb-true, eqb-false}
 use lib.Dec.{eqb}
 use Rattle.measure.specs.Refusals.{firstOf, Refuse, here, later, Accept}
 use Rattle.measure_laws.proofs.Refusals.{refused-with, accepted, judged}
 use Rattle.spaces.proofs.laws.Cases.{by-test}
-use Rattle.spaces_laws.proofs.Refusals.{Numbered, none-applies}
+use Rattle.measure.proofs.laws.Refusals.{Numbered}
+use Rattle.spaces_laws.proofs.Refusals.{none-applies}
 use Rattle.demands.specs.Tests.{FirstGiven, Applies, first, further, LowestGiven}
 
 -- the numbers of the tests ascend, each over the one before it
@@ -73,14 +74,6 @@ lowest-given tests ascend =
         less f = omega (arith, at-most-any 0 ascend a)
 
 -- ---- lists inside lists
-
--- a test that gives the number of other tests, where one of them applies, is those tests
-pub spliced : (tests rest : List (Bool × ℕ)) → Numbered tests → firstOf ((not (eqb (firstOf tests) 0), firstOf tests) ∷ rest) ≡ firstOf (tests ++ rest)
-spliced [] rest numbered = refl
-spliced (test ∷ tests) rest numbered =
-    by-test (test .0)
-    (λ t. rw t (rw (ne-eqb (test .1) 0 (λ z. omega arith))))
-    (λ f. rw f (spliced tests rest (numbered .1)))
 
 -- two tests with one number are one
 pub either : (a b : Bool) (n : ℕ) (rest : List (Bool × ℕ)) → firstOf ((a, n) ∷ (b, n) ∷ rest) ≡ firstOf ((a || b, n) ∷ rest)

@@ -4,6 +4,7 @@ use Prim.Native.Nat.{ℕ}
 use mathlib.Core.Path.{_≡_}
 use mathlib.Core.List.{List, [], _∷_}
 use Rattle.measure.specs.declared.units.Hundredths.{Hundredths}
+use Rattle.spaces.specs.Space.{allRecorded}
 use Rattle.spaces.specs.declared.space.Space.{Space}
 use Rattle.sheet.specs.Sheet.{standing}
 use Rattle.sheet.specs.Calls.{openedWith}
@@ -13,11 +14,12 @@ use Rattle.sheet_laws.specs.Run.{Call, answer}
 use Rattle.dayfile.specs.Writing.{written}
 use Rattle.dayfile.specs.Reading.{readOf}
 
--- a sheet just opened, just read from any bytes, or just made of recorded spaces: L is its tonnage length, and the spaces `start` stand
+-- a sheet just opened, just read from any bytes, or just made of recorded spaces, their m gone: L is its tonnage length, and the spaces
+-- `start` stand
 pub data Begun : Hundredths → List Space → Sheet → Type 0 where
   opened : (L : Hundredths) → openedWith L .number ≡ 0 → Begun L [] (openedWith L .sheet)
   read : (file : List ℕ) → readOf file .number ≡ 0 → Begun (readOf file .sheet .length) (standing (readOf file .sheet)) (readOf file .sheet)
-  ofRecords : (L : Hundredths) (records : List Space) → resumed L records .number ≡ 0 → Begun L records (resumed L records .sheet)
+  ofRecords : (L : Hundredths) (records : List Space) → resumed L records .number ≡ 0 → Begun L (allRecorded records) (resumed L records .sheet)
 
 -- a call of the day: one on the sheet alone, or a write with a justified mark into a buffer of some size from a place on
 pub data DayCall : Type 0 where

@@ -9,8 +9,10 @@ use Rattle.measure.specs.declared.units.Hundredths.{Hundredths}
 use Rattle.measure.specs.Kinds.{kindOf}
 use Rattle.measure.specs.Ranges.{includes, tonnageLengths}
 use Rattle.measure.specs.Offsets.{inRange, counted as rightlyCounted}
+use Rattle.measure.specs.Tanks.{tankInRange, passesEnd, lengthsFit}
 use Rattle.spaces.specs.Row.{sumOf}
 use Rattle.standard.specs.Rules.{entryTests, withdrawTests, markTests}
+use Rattle.standard.specs.Tanks.{tankTests}
 use Rattle.standard.specs.Gross.{gross, net, needsMark}
 use Rattle.standard.specs.Records.{misrecorded}
 use Rattle.spaces.specs.declared.space.Space.{Space}
@@ -18,13 +20,16 @@ use Rattle.spaces.specs.declared.sums.Amount.the-variants.{Lengths}
 use Rattle.sheet.specs.Sheet.{standing, usable}
 use Rattle.sheet.specs.declared.sheet.Sheet.{Sheet}
 use Rattle.sheet.specs.declared.calls.Entry.{Entry}
-use Rattle.sheet_laws.specs.Run.{spaceOf}
+use Rattle.sheet.specs.Calls.{spaceOf}
+use Rattle.sheet.specs.Tanks.{tankIn, sectionsWrong}
+use Rattle.sheet.specs.declared.tanks.Tank.{Tank}
 use Rattle.dayfile.specs.Trailer.{sheetSize}
 use Rattle.dayfile.specs.Reading.{lastTrailer, lastRecords, noSheet, faultIn, sheetIn, readOf}
 use Rattle.dayfile_laws.specs.Faults.{FirstFault, NoFault}
 
 -- ---- the rows of "Numbers of refusal" that each call can be refused with. The conditions of entryTests (4 to 10), withdrawTests
--- (5, 11) and markTests (5, 6, 8) are defined in standard/specs/Rules, those of 16 and 17 in dayfile/specs/Reading.
+-- (5, 11) and markTests (5, 6, 8) are defined in standard/specs/Rules, those of tankTests (4 to 10 and 29) in standard/specs/Tanks, those
+-- of 16 and 17 in dayfile/specs/Reading.
 
 -- 2: the tonnage length is outside its range
 abbrev pub openTests : Hundredths → List (Bool × ℕ)
@@ -40,6 +45,20 @@ enterTests s e heights breadths =
     ∷ (ltb 3 (e .standing) || not (inRange k t l heights breadths), 2)
     ∷ (not (rightlyCounted k t l heights breadths), 3)
     ∷ entryTests (s .length) (standing s) (spaceOf (s .length) e heights breadths)
+
+-- 1; 2: its standing, its length, its fore end or a measure is outside its range; 3: "a section or breadth is missing or extra"; 4 to 10; 29
+abbrev pub enterTankTests : Sheet → Tank → List ℕ → List ℕ → List (Bool × ℕ)
+enterTankTests s k depths breadths =
+    let L = s .length in
+    let xs = standing s in
+    (not (usable s), 1)
+    ∷ (ltb 3 (k .standing) || not (tankInRange (k .length) (k .fore) depths breadths), 2)
+    ∷ (sectionsWrong L xs k depths breadths, 3)
+    ∷ tankTests L xs (tankIn L xs k depths breadths) (k .fore)
+
+-- where a tank is measured: "refused with 2 (a length outside its range, fore over 150,000) or 9 (passes an end)"
+abbrev pub layOutTests : Hundredths → Hundredths → Hundredths → Hundredths → List (Bool × ℕ)
+layOutTests t u l f = (not (lengthsFit t u l f), 2) ∷ (passesEnd u l f, 9) ∷ []
 
 -- 1, 5, 11
 abbrev pub withdrawalTests : Sheet → ℕ → List (Bool × ℕ)

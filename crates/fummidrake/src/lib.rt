@@ -8,20 +8,26 @@ use listing::Listing;
 use measure::kinds::kind_of;
 use measure::offsets::breadths_at_station;
 use measure::offsets::stations;
+use measure::tanks::LaidOut;
+use measure::tanks::lay_out;
+use measure::tanks::section_station;
 use measure::units::Hundredths;
 use sheet::Changed;
 use sheet::Counted;
 use sheet::Entry;
 use sheet::Reported;
 use sheet::Sheet;
+use sheet::Tank;
 use spaces::space::Space;
 ghost use mathlib.Core.Path.{_≡_};
 ghost use lib.ListN.{length};
 ghost use Rattle.measure.specs.Kinds.{kindOf};
 ghost use Rattle.measure.specs.Volumes.{hundredths};
 ghost use Rattle.measure.specs.Offsets.{stations as stationsOf, breadthsAtStation};
+ghost use Rattle.measure.specs.Tanks.{laidOut, sectionStation};
 ghost use Rattle.sheet.specs.Sheet.{usable, lengthOf, standingCount, spaceAt};
 ghost use Rattle.sheet.specs.Calls.{openedWith, entered, withdrawn, marked, undone, redone, counted, reported};
+ghost use Rattle.sheet.specs.Tanks.{tankEntered};
 ghost use Rattle.dayfile.specs.Writing.{written, writtenInto};
 ghost use Rattle.dayfile.specs.Reading.{readOf, readBefore};
 ghost use Rattle.listing.specs.Listing.{listed};
@@ -43,6 +49,18 @@ pub extern "C" fn fummidrake_enter(
     ensures { λ r. ⌜ r ≡ entered sheet entry (now (heights .entry)) (now (breadths .entry)) ⌝ }
 {
     sheet.enter(entry, heights, breadths)
+}
+
+#[no_mangle]
+pub extern "C" fn fummidrake_enter_tank(
+    sheet: Sheet,
+    tank: Tank,
+    depths: &[u32],
+    breadths: &[u32],
+) -> Changed
+    ensures { λ r. ⌜ r ≡ tankEntered sheet tank (now (depths .entry)) (now (breadths .entry)) ⌝ }
+{
+    sheet.enter_tank(tank, depths, breadths)
 }
 
 #[no_mangle]
@@ -131,6 +149,42 @@ pub extern "C" fn fummidrake_breadths_at_station(kind: u8, middle: u32) -> usize
     ensures { λ r. ⌜ r ≡ breadthsAtStation (kindOf kind) (hundredths middle) ⌝ }
 {
     breadths_at_station(kind_of(kind), Hundredths(middle))
+}
+
+#[no_mangle]
+pub extern "C" fn fummidrake_lay_out(
+    tonnage_length: u32,
+    under_deck: u32,
+    length: u32,
+    fore: u32,
+) -> LaidOut
+    ensures { λ r. ⌜ r ≡ laidOut (hundredths «tonnage_length») (hundredths «under_deck») (hundredths length) (hundredths fore) ⌝ }
+{
+    lay_out(
+        Hundredths(tonnage_length),
+        Hundredths(under_deck),
+        Hundredths(length),
+        Hundredths(fore),
+    )
+}
+
+#[no_mangle]
+pub extern "C" fn fummidrake_section_station(
+    tonnage_length: u32,
+    under_deck: u32,
+    length: u32,
+    fore: u32,
+    section: usize,
+) -> usize
+    ensures { λ r. ⌜ r ≡ sectionStation (hundredths «tonnage_length») (hundredths «under_deck») (hundredths length) (hundredths fore) section ⌝ }
+{
+    section_station(
+        Hundredths(tonnage_length),
+        Hundredths(under_deck),
+        Hundredths(length),
+        Hundredths(fore),
+        section,
+    )
 }
 
 #[no_mangle]

@@ -1,13 +1,16 @@
--- The measuring rules of document 01, in its order: read these files from top to bottom. Handed alone is none of them: it has what the
+-- The measuring rules of document 01, in its order, and the tanks of T-01: read these files from top to bottom. Handed alone is none of them: it has what the
 -- functions inside the crate ask of each other.
 pub mod Kinds
 pub mod Rounding
 pub mod Parts
 pub mod Thirds
 pub mod Multipliers
+pub mod Zones
+pub mod Sections
 pub mod Volumes
 pub mod Ranges
 pub mod Refusals
 pub mod Offsets
+pub mod Tanks
 pub mod Allowances
 pub mod Handed

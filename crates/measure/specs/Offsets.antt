@@ -46,6 +46,15 @@ pub record Middle (depths : List ℕ) (d : Hundredths) : Type 0 where
   pub in-order : depths ≡ before ++ d.0 ∷ after
   pub as-many : length before ≡ length after
 
+-- m of a space that is entered from its heights: a U's "4 or 6", by the depth at its middle station; no other space has one
+abbrev pub mOf : Kind → List ℕ → ℕ
+mOf UnderDeck hs = depthParts (middleOf hs)
+mOf BetweenDeck hs = 0
+mOf Superstructure hs = 0
+mOf Hatchway hs = 0
+mOf Room hs = 0
+mOf NoKind hs = 0
+
 -- 3: heights and breadths are the number the rules ask, or it applies
 unfoldable pub counted : Kind → Hundredths → Hundredths → List ℕ → List ℕ → Bool
 counted k t l hs bs =

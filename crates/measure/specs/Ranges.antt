@@ -32,6 +32,10 @@ lengths Hatchway = otherLengths
 lengths Room = otherLengths
 lengths NoKind = otherLengths
 
+-- how far a tank's fore end may lie along its U: "2 for a fore end over 150,000" (T-01)
+abbrev pub fores : Range
+fores = record { least = 0; most = 150000 }
+
 -- "for H and R the least is 1"
 abbrev pub leastOffset : Kind → ℕ
 leastOffset UnderDeck = 0

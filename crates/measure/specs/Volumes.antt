@@ -37,11 +37,14 @@ pub record StationByStation (m : ℕ) (depths breadths found : List ℕ) : Type 
   pub each : (i : ℕ) → i < length depths
       → getD found i 0 ≡ stationArea m (hundredths (getD depths i 0)) (take (m + 1) (drop (i * (m + 1)) breadths))
 
--- U: "The same multipliers over the areas, times the third interval of length, give the volume." Breadths and thirds of depth are
+-- "The same multipliers over the areas, times the third interval of length, give the volume." Breadths and thirds of depth are
 -- hundredths of a foot, thirds of length thousandths.
+abbrev pub volumeOver : Hundredths → ℕ → List ℕ → CubicFeet
+volumeOver l n areas = record { over = weighted n areas * thirdOfLength l n .0; under = 100 * 100 * 1000 }
+
+-- U, in n parts of length and m of depth
 unfoldable pub underDeckVolume : Hundredths → ℕ → ℕ → List ℕ → List ℕ → CubicFeet
-underDeckVolume l n m depths breadths =
-    record { over = weighted n (areas m depths breadths) * thirdOfLength l n .0; under = 100 * 100 * 1000 }
+underDeckVolume l n m depths breadths = volumeOver l n (areas m depths breadths)
 
 -- B and S: "The multipliers over the breadths, times the third interval of length, give an area; times the plain mean of the heights
 -- gives the volume." There are n + 1 heights.

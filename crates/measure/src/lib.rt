@@ -11,6 +11,8 @@ mod parts;
 pub mod ranges;
 pub mod refusals;
 mod rounding;
+pub mod sections;
+pub mod tanks;
 pub mod thirds;
 pub mod units;
 mod volumes;

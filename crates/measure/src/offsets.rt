@@ -19,7 +19,7 @@ use crate::volumes::box_tons;
 use crate::volumes::level_tons;
 use crate::volumes::under_deck_tons;
 ghost use mathlib.Core.Path.{_≡_};
-ghost use Rattle.measure.specs.Offsets.{inRange, stations as stationsOf, breadthsAtStation, counted as countedOf, tonnage as tonnageOf, measured};
+ghost use Rattle.measure.specs.Offsets.{inRange, stations as stationsOf, breadthsAtStation, middleOf, mOf, counted as countedOf, tonnage as tonnageOf, measured};
 ghost use Rattle.measure.specs.Handed.{Taken};
 
 // The paper's number, 0 where accepted, and the tonnage in hundredths of a ton, 0 where refused.
@@ -79,6 +79,31 @@ pub fn breadths_at_station(kind: Kind, middle: Hundredths) -> usize
     }
 }
 
+// m of a space that is entered from its heights: a U's, by the depth at its middle station; no other space has one.
+pub fn m_of(kind: Kind, heights: &[u32]) -> u8
+    ensures { λ r. ⌜ r ≡ mOf kind (now (heights .entry)) ⌝ }
+{
+    match kind {
+        Kind::UnderDeck => of_depth(middle_of(heights)) as u8,
+        Kind::BetweenDeck => 0,
+        Kind::Superstructure => 0,
+        Kind::Hatchway => 0,
+        Kind::Room => 0,
+        Kind::NoKind => 0,
+    }
+}
+
+// The depth at the middle station; 0 where there is none.
+fn middle_of(depths: &[u32]) -> Hundredths
+    ensures { λ r. ⌜ r ≡ middleOf (now (depths .entry)) ⌝ }
+{
+    let at = depths.len() / 2;
+    if at < depths.len() {
+        return Hundredths(depths[at]);
+    }
+    Hundredths(0)
+}
+
 // The kind, the tonnage length, the length and every measure are in their ranges.
 fn in_range(
     kind: Kind,
@@ -117,8 +142,7 @@ fn counted(
     if heights.len() != stations(kind, tonnage_length, length) {
         return false;
     }
-    let middle = heights[heights.len() / 2];
-    breadths.len() == heights.len() * breadths_at_station(kind, Hundredths(middle))
+    breadths.len() == heights.len() * breadths_at_station(kind, middle_of(heights))
 }
 
 // A U in range and of the number asked.
@@ -132,8 +156,7 @@ fn under_deck(
     ensures { λ r. ⌜ r ≡ tonnageOf Kind.UnderDeck «tonnage_length» length (now (depths .entry)) (now (breadths .entry)) ⌝ }
 {
     let n = of_under_deck(tonnage_length, length);
-    let middle = depths[depths.len() / 2];
-    let m = of_depth(Hundredths(middle));
+    let m = of_depth(middle_of(depths));
     under_deck_tons(length, n, m, depths, breadths)
 }
 

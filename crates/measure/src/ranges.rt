@@ -2,7 +2,7 @@
 use crate::kinds::Kind;
 use crate::units::Hundredths;
 ghost use mathlib.Core.Path.{_≡_};
-ghost use Rattle.measure.specs.Ranges.{includes as includesOf, includesAll, leastOffset, tonnageLengths, otherLengths, lengths as lengthsOf, heights as heightsOf, breadths as breadthsOf};
+ghost use Rattle.measure.specs.Ranges.{includes as includesOf, includesAll, leastOffset, tonnageLengths, otherLengths, lengths as lengthsOf, fores, heights as heightsOf, breadths as breadthsOf};
 
 // From the least to the most, both included.
 pub struct Range {
@@ -108,6 +108,13 @@ pub fn tonnage_length_fits(length: Hundredths) -> bool
     ensures { λ r. ⌜ r ≡ includesOf tonnageLengths (length .0) ⌝ }
 {
     includes(tonnage_lengths(), length.0)
+}
+
+// Whether the distance of a tank's fore end along its U is in its range.
+pub(crate) fn fore_fits(fore: Hundredths) -> bool
+    ensures { λ r. ⌜ r ≡ includesOf fores (fore .0) ⌝ }
+{
+    fore.0 <= LONGEST
 }
 
 // Whether the length of a space of this kind is in its range.

@@ -2,6 +2,9 @@ pub mod Rounding
 pub mod Parts
 pub mod Classes
 pub mod Stations
+pub mod Zones
 pub mod Refusals
 pub mod Offsets
+pub mod Tanks
 pub mod Figures
+pub mod TankFigures

@@ -1,9 +1,9 @@
 -- `nearestParts` is the even number from 2 to 16 that `NearestEven` says, and no other is.
-use mathlib.Core.Path.{_≡_, refl, sym, subst}
+use mathlib.Core.Path.{_≡_, refl, sym, ap, subst, _∙_}
 use mathlib.Core.Bool.{Bool, true, false, cond}
 use mathlib.Core.Logic.{_⊎_, inl, inr, ⊎-elim}
 use Prim.Native.Nat.{ℕ, _+_, _*_, _≤_, _<_}
-use native.Mathlib.Nat.{le-refl, le-trans, le-antisymm, le-of-eq, le-of-lt, eq-or-lt-of-le, mul-right-comm, mul-le-mul-right, le-of-mul-le-mul-right}
+use native.Mathlib.Nat.{le-refl, le-trans, le-antisymm, le-of-eq, le-of-lt, eq-or-lt-of-le, zero-mul, mul-right-comm, mul-le-mul-right, le-of-mul-le-mul-right, eq-of-mul-eq-mul-left, eq-of-mul-eq-mul-right}
 use native.Mathlib.Omega.{arith}
 use borrow.Author.Tests.{leb-true, leb-false}
 use lib.Dec.{leb}
@@ -107,3 +107,23 @@ nearest-parts-only t n l p q r s =
     let a = r .nearest-of q (s .even) in
     let b = s .nearest-of p (r .even) in
     le-antisymm (s .greater-of p (r .even) (le-antisymm b a)) (r .greater-of q (s .even) (le-antisymm a b))
+
+-- where the interval of a length is the reference for that length, its own number of parts is the nearest
+pub nearest-to-itself : {n : ℕ} (u : Hundredths) → EvenParts n → 0 < u.0 → nearestParts u n u ≡ n
+unfolding distance
+nearest-to-itself {n} u even some =
+    nearest-parts-only u n u (nearestParts u n u) n (nearest-parts-is u n u)
+    (record {
+      even = even;
+      nearest-of = λ k q. omega (arith, at-itself k);
+      greater-of = λ k q e.
+          let z : distance u n u k * n ≡ 0 * n = sym e ∙ at-itself k ∙ sym (zero-mul n) in
+          let none : distance u n u k ≡ 0 = eq-of-mul-eq-mul-right n (omega (arith, least even)) (distance u n u k) 0 z in
+          let same : u.0 * n ≡ u.0 * k = omega arith in
+          le-of-eq (sym (eq-of-mul-eq-mul-left u.0 some n k same));
+    })
+  where
+    at-itself : (k : ℕ) → distance u n u n * k ≡ 0
+    at-itself k =
+        let none : distance u n u n ≡ 0 = omega arith in
+        ap (λ (d : ℕ). d * k) none ∙ zero-mul k

@@ -2,16 +2,18 @@
 use Prim.Native.Nat.{ℕ, zero, suc, _+_, _*_, _/_, _<_}
 use mathlib.Core.Path.{_≡_, sym, ap, _∙_}
 use mathlib.Core.List.{List, _∷_, _++_}
-use native.Mathlib.Nat.{zero-mul, suc-mul, add-mul}
+use native.Mathlib.Nat.{zero-add, add-zero, zero-mul, suc-mul, add-mul}
+use native.Mathlib.Numerals.{add-one}
 use native.Mathlib.Omega.{arith}
 use lib.ListN.{length, take, drop, getD, replicate, length-append, length-drop}
 use lib.Seq.{drop-drop, split-at, getD-at, ext-getD, length-take-le}
 use Rattle.measure.specs.Parts.{EvenParts}
 use Rattle.measure.specs.Multipliers.{multiplier, weightedFrom, weighted}
+use Rattle.measure.specs.Zones.{zoneEnd}
 use Rattle.measure.specs.Volumes.{hundredths, stationArea, areas, StationByStation}
 use Rattle.measure.specs.Offsets.{middleOf, Middle}
 use Rattle.measure.specs.declared.units.Hundredths.{Hundredths}
-use Rattle.measure.proofs.laws.Multipliers.{multiplierSum, multipliers-add-up}
+use Rattle.measure.proofs.laws.Multipliers.{zones-fill}
 use Rattle.measure.proofs.laws.Volumes.{length-areas}
 
 -- ---- which breadths are a station's
@@ -61,13 +63,15 @@ middle-only depths d m =
 
 -- ---- equal values
 
-each-equal : (n v number k : ℕ) → weightedFrom n number (replicate k v) ≡ multiplierSum n number k * v
-unfolding multiplierSum
-each-equal n v number zero = sym (zero-mul v)
-each-equal n v number (suc k) =
-    omega (arith, each-equal n v (number + 1) k, add-mul (multiplier n number) (multiplierSum n (number + 1) k) v)
+each-equal : (n v k j : ℕ) → weightedFrom n (k + 1) (replicate j v) + zoneEnd n k * v ≡ zoneEnd n (k + j) * v
+each-equal n v k zero = rw (add-zero k) (omega arith)
+each-equal n v k (suc j) =
+    let on : k + suc j ≡ suc k + j = omega arith in
+    rw (add-one k) (omega (arith, each-equal n v (suc k) j, ap (λ (i : ℕ). zoneEnd n i * v) on, add-mul (zoneEnd n k) (multiplier n (suc k)) v))
 
 -- n + 1 equal values weigh 3 n times the value: a box's area and volume are its own
 pub equal-values : {n : ℕ} → EvenParts n → (v : ℕ) → weighted n (replicate (n + 1) v) ≡ 3 * n * v
 unfolding weighted
-equal-values {n} p v = each-equal n v 1 (n + 1) ∙ ap (λ (k : ℕ). k * v) (multipliers-add-up p)
+equal-values {n} p v =
+    let whole : zoneEnd n (0 + (n + 1)) ≡ 3 * n = ap (zoneEnd n) (zero-add (n + 1)) ∙ zones-fill p in
+    omega (arith, each-equal n v 0 (n + 1), ap (λ (k : ℕ). k * v) whole)

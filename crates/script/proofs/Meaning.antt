@@ -153,7 +153,7 @@ abbrev pub placesIn : List (List ℕ) → List ℕ
 placesIn forms = map (λ (form : List ℕ). placeOf (wordAt 0 form) forms) forms
 
 -- it is the form's own: a name is one call's alone
-pub each-of-survey : placesIn surveyForms ≡ 0 ∷ 1 ∷ 2 ∷ 3 ∷ 4 ∷ 5 ∷ 6 ∷ 7 ∷ 8 ∷ 9 ∷ 10 ∷ 11 ∷ 12 ∷ []
+pub each-of-survey : placesIn surveyForms ≡ 0 ∷ 1 ∷ 2 ∷ 3 ∷ 4 ∷ 5 ∷ 6 ∷ 7 ∷ 8 ∷ 9 ∷ 10 ∷ 11 ∷ 12 ∷ 13 ∷ 14 ∷ []
 each-of-survey = refl
 
 pub each-of-figures : placesIn figuresForms ≡ 0 ∷ 1 ∷ 2 ∷ []

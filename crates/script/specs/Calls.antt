@@ -25,6 +25,7 @@ abbrev pub surveyForms : List (List ℕ)
 surveyForms =
     ascii "open number"
     ∷ ascii "enter number number number number number list list"
+    ∷ ascii "tank number number number number number list list"
     ∷ ascii "withdraw number"
     ∷ ascii "mark number number"
     ∷ ascii "undo"
@@ -35,6 +36,7 @@ surveyForms =
     ∷ ascii "writef number number size fill"
     ∷ ascii "read hex"
     ∷ ascii "before number hex"
+    ∷ ascii "zones number number number number"
     ∷ ascii "spaces"
     ∷ []
 

@@ -37,6 +37,7 @@ pub fn survey_line(line: &[u8]) -> Line
     line_by(
         b"open number\n\
           enter number number number number number list list\n\
+          tank number number number number number list list\n\
           withdraw number\n\
           mark number number\n\
           undo\n\
@@ -47,6 +48,7 @@ pub fn survey_line(line: &[u8]) -> Line
           writef number number size fill\n\
           read hex\n\
           before number hex\n\
+          zones number number number number\n\
           spaces",
         line,
     )

@@ -7,7 +7,8 @@ use lib.ListN.{getD}
 use Rattle.measure.specs.Ranges.{includes, tonnageLengths}
 use Rattle.measure.specs.Refusals.{firstOf}
 use Rattle.measure.specs.Volumes.{hundredths}
-use Rattle.measure.specs.Offsets.{measured}
+use Rattle.measure.specs.Kinds.{kindOf}
+use Rattle.measure.specs.Offsets.{mOf, measured}
 use Rattle.measure.specs.declared.units.Hundredths.{Hundredths}
 use Rattle.measure.specs.declared.offsets.Measured.{Measured}
 use Rattle.spaces.specs.Row.{find, placeOf, spaceWith, sumOf}
@@ -42,17 +43,23 @@ changed c s = noted c (made c s)
 
 -- ---- enter
 
--- the record of an entry with its tonnage: "Only a room has an enclosing space", of any other kind 0 is recorded
-unfoldable pub entryOf : Entry → ℕ → Space
-entryOf e tonnage =
+-- the record of an entry with its m and its tonnage: "Only a room has an enclosing space", of any other kind 0 is recorded
+unfoldable pub entryOf : Entry → (m tonnage : ℕ) → Space
+entryOf e m tonnage =
     record {
       id = e .id;
       within = cond (eqb (e .kind) 5) (e .within) 0;
       kind = e .kind;
       standing = e .standing;
+      m = m;
       tonnage = tonnage;
       length = e .length;
     }
+
+-- the space of an entry, measured from its offsets, where L is the tonnage length
+abbrev pub spaceOf : Hundredths → Entry → List ℕ → List ℕ → Space
+spaceOf L e heights breadths =
+    entryOf e (mOf (kindOf (e .kind)) heights) (measured (e .kind) L (e .length) heights breadths .tonnage)
 
 abbrev pub measuredFor : Sheet → Entry → List ℕ → List ℕ → Measured
 measuredFor s e heights breadths = measured (e .kind) (s .length) (e .length) heights breadths
@@ -65,12 +72,11 @@ enterNumber s e heights breadths =
     ((not (usable s), 1)
     ∷ (ltb 3 (e .standing), 2)
     ∷ (not (eqb (m .number) 0), m .number)
-    ∷ entryTests (s .length) (standing s) (entryOf e (m .tonnage)))
+    ∷ entryTests (s .length) (standing s) (spaceOf (s .length) e heights breadths))
 
 unfoldable pub entered : Sheet → Entry → List ℕ → List ℕ → Changed
 entered s e heights breadths =
-    let m = measuredFor s e heights breadths in
-    answered (enterNumber s e heights breadths) s (changed (Entered (entryOf e (m .tonnage))) s)
+    answered (enterNumber s e heights breadths) s (changed (Entered (spaceOf (s .length) e heights breadths)) s)
 
 -- ---- withdraw and mark
 

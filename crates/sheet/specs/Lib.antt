@@ -1,8 +1,9 @@
 -- The sheet, its changes and its report, as document 01 has them ("The sheet and its changes", "Gross and net", rows 1 to 14 of
--- "Numbers of refusal"). Read these files from top to bottom; Handed is what the functions inside the
+-- "Numbers of refusal"), and the entry of a tank as T-01 of document 02 has it. Read these files from top to bottom; Handed is what the functions inside the
 -- crate ask of a sheet and hand one another.
 pub mod Sheet
 pub mod Changes
 pub mod Calls
+pub mod Tanks
 pub mod Resume
 pub mod Handed

@@ -8,14 +8,15 @@ use Rattle.measure.specs.Ranges.{includes, tonnageLengths}
 use Rattle.measure.specs.Volumes.{hundredths}
 use Rattle.measure.specs.declared.units.Hundredths.{Hundredths}
 use Rattle.standard.specs.Records.{firstRefused}
+use Rattle.spaces.specs.Space.{allRecorded}
 use Rattle.spaces.specs.declared.space.Space.{Space}
 use Rattle.sheet.specs.Sheet.{blank}
 use Rattle.sheet.specs.Changes.{withStanding}
 use Rattle.sheet.specs.declared.resume.Resumed.{Resumed}
 
--- the sheet of these records
+-- the sheet of these records: "0 for every space read from a file or resumed" is its m (T-01)
 abbrev pub sheetOf : Hundredths → List Space → Resumed
-sheetOf L records = record { number = 0; position = 0; sheet = withStanding records (blank true L) }
+sheetOf L records = record { number = 0; position = 0; sheet = withStanding (allRecorded records) (blank true L) }
 
 abbrev pub refused : ℕ → ℕ → Resumed
 refused number position = record { number = number; position = position; sheet = blank false (hundredths 0) }

@@ -7,6 +7,8 @@ use crate::refusals::NOT_OPEN;
 use crate::refusals::NOTHING_OPEN;
 use crate::sheet::Sheet;
 use measure::kinds::ROOM;
+use measure::kinds::kind_of;
+use measure::offsets::m_of;
 use measure::offsets::measure_offsets;
 use measure::ranges::tonnage_length_fits;
 use measure::refusals::OUTSIDE_ITS_RANGE;
@@ -54,9 +56,9 @@ pub struct Reported {
 }
 
 impl Entry {
-    // The record of an entry, with its tonnage.
-    fn space(self, tonnage: u32) -> Space
-        ensures { λ r. ⌜ r ≡ entryOf self tonnage ⌝ }
+    // The record of an entry, with its m and its tonnage.
+    fn space(self, m: u8, tonnage: u32) -> Space
+        ensures { λ r. ⌜ r ≡ entryOf self m tonnage ⌝ }
     {
         let length = self.length;
         let mut within = 0;
@@ -68,6 +70,7 @@ impl Entry {
             within,
             kind: self.kind,
             standing: self.standing,
+            m,
             tonnage,
             length,
         }
@@ -116,7 +119,7 @@ impl Sheet {
                 sheet: self,
             };
         }
-        let x = entry.space(measured.tonnage);
+        let x = entry.space(m_of(kind_of(entry.kind), heights), measured.tonnage);
         let spaces = self.spaces;
         let number = entry_number(spaces, self.count, self.length, x);
         if number != 0 {
@@ -182,8 +185,8 @@ impl Sheet {
                 sheet: self,
             };
         }
-        let x = ruling.space;
-        let change = Change::Marked(ruling.place, x.standing, standing);
+        let before = ruling.space.standing;
+        let change = Change::Marked(ruling.place, before, standing);
         Changed {
             number: 0,
             sheet: self.made(change).noted(change),

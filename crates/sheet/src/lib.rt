@@ -9,6 +9,7 @@ pub mod refusals;
 mod resume;
 mod row;
 mod sheet;
+mod tanks;
 
 pub use calls::Changed;
 pub use calls::Counted;
@@ -16,3 +17,4 @@ pub use calls::Entry;
 pub use calls::Reported;
 pub use resume::Resumed;
 pub use sheet::Sheet;
+pub use tanks::Tank;

@@ -11,6 +11,7 @@ use standard::records::first_refused;
 ghost use mathlib.Core.Path.{_≡_};
 ghost use Prim.Native.Nat.{_≤_};
 ghost use lib.ListN.{take};
+ghost use Rattle.spaces.specs.Space.{allRecorded};
 ghost use Rattle.sheet.specs.Resume.{resumed};
 ghost use Rattle.sheet.specs.Changes.{withStanding};
 
@@ -23,10 +24,10 @@ pub struct Resumed {
 }
 
 impl Sheet {
-    // The first n records in the first places.
+    // The spaces of the first n records in the first places.
     fn with_records(self, records: [Space; 200], n: usize) -> Sheet
         requires { ⌜ n ≤ 200 ⌝ }
-        ensures { λ r. ⌜ r ≡ withStanding (take n records) self ⌝ }
+        ensures { λ r. ⌜ r ≡ withStanding (allRecorded (take n records)) self ⌝ }
     {
         let spaces = self.spaces;
         let row = with_first(spaces, records, n);

@@ -7,6 +7,7 @@ ghost use mathlib.Core.List.{_∷_};
 ghost use Prim.Native.Nat.{_+_, _-_, _≤_, _<_};
 ghost use lib.ListN.{length, drop};
 ghost use lib.Seq.{paste};
+ghost use Rattle.spaces.specs.Space.{allRecorded};
 ghost use Rattle.sheet.specs.Handed.{behind};
 
 // Places for spaces, and for open changes. The `ensures` says it of the array too, which a struct's field doesn't tell.
@@ -83,15 +84,17 @@ fn without_oldest(changes: [OpenChange; 64]) -> [OpenChange; 64]
     row
 }
 
-// The first n places of another array in the place of its own.
-pub(crate) fn with_first(spaces: [Space; 200], other: [Space; 200], n: usize) -> [Space; 200]
+// The first n of some records in the first places, as they give their spaces back.
+pub(crate) fn with_first(spaces: [Space; 200], records: [Space; 200], n: usize) -> [Space; 200]
     requires { ⌜ n ≤ 200 ⌝ }
-    ensures { λ r. ⌜ r ≡ paste spaces 0 other n ⌝ }
+    ensures { λ r. ⌜ r ≡ paste spaces 0 (allRecorded records) n ⌝ }
 {
     let mut row = spaces;
     let mut i = 0;
     while i < n {
-        row[i] = other[i];
+        let mut x = records[i];
+        x.m = 0;
+        row[i] = x;
         i += 1;
     }
     row

@@ -1,28 +1,36 @@
 -- The paper's rules: an accepted entry, withdrawal and mark fit the spaces that they were accepted on. Stands on Changes, Resumable,
 -- Runs.
 use Prim.Native.Nat.{ℕ}
-use mathlib.Core.Path.{_≡_, sym, ap, _∙_}
-use mathlib.Core.Bool.{not}
+use mathlib.Core.Path.{_≡_, refl, sym, ap, _∙_}
+use mathlib.Core.Bool.{true, false, not}
 use mathlib.Core.List.{List, [], _∷_, _++_}
 use native.Mathlib.Omega.{arith}
-use borrow.Author.Tests.{eqb-true, eqb-false}
+use borrow.Author.Tests.{not-false, eqb-true, eqb-false}
 use lib.Dec.{eqb, ltb}
+use Rattle.measure.specs.declared.units.Hundredths.{Hundredths}
+use Rattle.spaces.specs.Space.{isRoom}
+use Rattle.spaces.specs.declared.space.Space.{Space}
 use Rattle.standard.specs.Rules.{entryTests, entryNumber, withdrawTests, withdrawNumber, markTests, markNumber}
+use Rattle.standard.specs.Tanks.{tankTests, tankNumber}
+use Rattle.measure.specs.Tanks.{tankInRange}
 use Rattle.spaces.proofs.laws.Cases.{by-test}
 use Rattle.spaces_laws.proofs.Valid.{valid-is-sound}
 use Rattle.spaces_laws.specs.Changes.{without, marked as markedById}
 use Rattle.spaces_laws.proofs.Withdraw.{facts-of-withdrawal}
 use Rattle.spaces_laws.proofs.Mark.{facts-of-mark}
+use Rattle.spaces_laws.proofs.Tanks.{tank-is-room}
 use Rattle.sheet.specs.Sheet.{standing, usable}
-use Rattle.sheet.specs.Calls.{measuredFor, entered, withdrawn, marked}
+use Rattle.sheet.specs.Calls.{spaceOf, measuredFor, entered, withdrawn, marked}
+use Rattle.sheet.specs.Tanks.{tankOf, tankIn, sectionsWrong, tankEntered}
 use Rattle.sheet.specs.declared.sheet.Sheet.{Sheet}
 use Rattle.sheet.specs.declared.calls.Entry.{Entry}
+use Rattle.sheet.specs.declared.tanks.Tank.{Tank}
 use Rattle.sheet.proofs.laws.Calls.{applies, passes, passed}
-use Rattle.sheet_laws.specs.Run.{spaceOf}
+use Rattle.sheet_laws.specs.Run.{spaceEntered, tankGiven}
 use Rattle.sheet_laws.specs.Resumable.{Resumable}
 use Rattle.sheet_laws.proofs.Runs.{Rules}
 use Rattle.sheet_laws.proofs.Changes.{entry-leads, withdrawal-leads, mark-leads}
-use Rattle.sheet_laws.proofs.Resumable.{resumable-entered, resumable-withdrawn, resumable-marked, entry-well-recorded}
+use Rattle.sheet_laws.proofs.Resumable.{resumable-entered, resumable-withdrawn, resumable-marked, entry-well-recorded, tank-well-recorded}
 
 -- ---- what the number 0 says: none of 1 to 3 applied, and none of the rules of what stands
 
@@ -37,6 +45,28 @@ enter-accepted s e hs bs z =
     by-test (eqb n 0)
     (λ t. (eqb-true _ _ t, sym (passes (not (eqb n 0)) n tests (ap not t)) ∙ two .1))
     (λ f. absurd (eqb-false _ _ f (sym (applies (not (eqb n 0)) n tests (ap not f)) ∙ two .1)))
+
+-- of a tank: its measures are in range, its sections and breadths are not wrong, and none of the rules of what stands applies
+pub record TankAccepted (s : Sheet) (k : Tank) (ds bs : List ℕ) : Type 0 where
+  pub in-range : tankInRange (k .length) (k .fore) ds bs ≡ true
+  pub sections-right : sectionsWrong (s .length) (standing s) k ds bs ≡ false
+  pub number : tankNumber (s .length) (standing s) (tankIn (s .length) (standing s) k ds bs) (k .fore) ≡ 0
+
+pub tank-accepted : (s : Sheet) (k : Tank) (ds bs : List ℕ) → tankEntered s k ds bs .number ≡ 0 → TankAccepted s k ds bs
+unfolding tankEntered tankNumber
+tank-accepted s k ds bs z =
+    let ranged = tankInRange (k .length) (k .fore) ds bs in
+    let wrong = sectionsWrong (s .length) (standing s) k ds bs in
+    let tests = tankTests (s .length) (standing s) (tankIn (s .length) (standing s) k ds bs) (k .fore) in
+    let one = passed (not (usable s)) 1 ((ltb 3 (k .standing), 2) ∷ (not ranged, 2) ∷ (wrong, 3) ∷ tests) z (λ w. omega arith) in
+    let two = passed (ltb 3 (k .standing)) 2 ((not ranged, 2) ∷ (wrong, 3) ∷ tests) (one .1) (λ w. omega arith) in
+    let measures = passed (not ranged) 2 ((wrong, 3) ∷ tests) (two .1) (λ w. omega arith) in
+    let sections = passed wrong 3 tests (measures .1) (λ w. omega arith) in
+    record { in-range = not-false _ (measures .0); sections-right = sections .0; number = sections .1 }
+
+pub a-room : (L : Hundredths) (xs : List Space) (k : Tank) (ds bs : List ℕ) → isRoom (tankIn L xs k ds bs) ≡ true
+unfolding tankOf
+a-room L xs k ds bs = refl
 
 withdraw-accepted : (s : Sheet) (id : ℕ) → withdrawn s id .number ≡ 0 → withdrawNumber (standing s) id ≡ 0
 unfolding withdrawn withdrawNumber
@@ -59,7 +89,15 @@ paper-rules =
           record {
             then = standing s ++ (x ∷ []);
             allowed = resumable-entered x r (entry-well-recorded (s .length) e hs bs measures) entry;
-            leads = entry-leads x (standing s);
+            leads = entry-leads x (spaceEntered x) (standing s) refl;
+          };
+      tank-fits = λ s k ds bs r z.
+          let x = tankIn (s .length) (standing s) k ds bs in
+          let a = tank-accepted s k ds bs z in
+          record {
+            then = standing s ++ (x ∷ []);
+            allowed = resumable-entered x r (tank-well-recorded (s .length) (standing s) k ds bs (a .in-range)) (tank-is-room (s .length) (standing s) x (k .fore) (a-room (s .length) (standing s) k ds bs) (a .number));
+            leads = entry-leads x (tankGiven (s .length) k ds bs) (standing s) refl;
           };
       withdrawal-fits = λ s id r z.
           let e = withdraw-accepted s id z in

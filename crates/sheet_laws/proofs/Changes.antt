@@ -16,16 +16,16 @@ use Rattle.spaces_laws.specs.Changes.{without, marked}
 use Rattle.spaces_laws.proofs.Places.{without-by-place, marked-by-place}
 use Rattle.sheet.specs.Changes.{removed, inserted, restood}
 use Rattle.sheet.specs.declared.changes.Change.the-variants.{Entered, Withdrawn, Marked}
-use Rattle.sheet_laws.specs.Run.{spaceEntered, idWithdrawn, idMarked}
+use Rattle.sheet_laws.specs.Run.{ChangeById, outcome, idWithdrawn, idMarked}
 use Rattle.sheet_laws.proofs.Undoable.{Leads}
 
 -- a new space comes last, and is the one taken off
-pub entry-leads : (x : Space) (xs : List Space) → Leads (Entered x) (spaceEntered x) xs (xs ++ (x ∷ []))
-entry-leads x xs =
+pub entry-leads : (x : Space) (by-id : ChangeById) (xs : List Space) → outcome by-id xs ≡ xs ++ (x ∷ []) → Leads (Entered x) by-id xs (xs ++ (x ∷ []))
+entry-leads x by-id xs last =
     record {
       leads = refl;
       leads-back = take-at xs (x ∷ []) (length (xs ++ (x ∷ [])) - 1) (omega (arith, length-append xs (x ∷ [])));
-      the-same = refl;
+      the-same = last;
     }
 
 -- on a valid sheet the place of an id that stands is its only one

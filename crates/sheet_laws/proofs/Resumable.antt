@@ -9,27 +9,36 @@ use native.Mathlib.Omega.{arith}
 use borrow.Author.Tests.{eqb-true, eqb-false, eq-eqb, le-ltb}
 use lib.Dec.{eqb}
 use Rattle.measure.specs.Kinds.{kindOf, isKind}
-use Rattle.measure.specs.Ranges.{includes, includesAll, tonnageLengths, lengths, heights, breadths}
+use Rattle.measure.specs.Ranges.{includes, includesAll, tonnageLengths, lengths, fores, heights, breadths}
 use Rattle.measure.specs.Offsets.{inRange, measured}
+use Rattle.measure.specs.Tanks.{tankInRange}
 use Rattle.measure.specs.declared.units.Hundredths.{Hundredths}
+use Rattle.measure.specs.declared.kinds.Kind.the-variants.{UnderDeck, Room}
 use Rattle.measure.proofs.laws.Tests.{and-left, and-right}
 use Rattle.measure_laws.proofs.Offsets.{measured-exactly, measured-at-most}
+use Rattle.measure_laws.proofs.Tanks.{measured-tank-at-most}
+use Rattle.spaces.specs.Space.{allRecorded}
 use Rattle.spaces.specs.declared.space.Space.{Space}
 use Rattle.standard.specs.Rules.{entryTests, entryNumber, withdrawNumber, markNumber}
+use Rattle.standard.specs.Tanks.{underDeckWith}
 use Rattle.standard.specs.Valid.{ValidFrom, done, next}
 use Rattle.spaces.proofs.laws.Cases.{by-test}
 use Rattle.spaces_laws.proofs.Tests.{or-fails-of}
 use Rattle.spaces_laws.specs.Above.{_∈_}
 use Rattle.spaces_laws.proofs.Lists.{all-snoc}
 use Rattle.spaces_laws.proofs.Valid.{valid-entered}
+use Rattle.spaces_laws.proofs.Recorded.{recorded-twice, first-refused-recorded}
 use Rattle.spaces_laws.specs.Changes.{without, marking, marked}
 use Rattle.spaces_laws.proofs.Withdraw.{withdrawal-by-id-keeps-valid}
 use Rattle.spaces_laws.proofs.Mark.{mark-by-id-keeps-valid}
 use Rattle.sheet.specs.Sheet.{blank}
-use Rattle.sheet.specs.Calls.{openedWith, entryOf}
+use Rattle.sheet.specs.Calls.{openedWith, entryOf, spaceOf}
+use Rattle.sheet.specs.Tanks.{tankOf, tankIn}
 use Rattle.standard.specs.Records.{misrecorded, recordNumber, firstRefused}
 use Rattle.sheet.specs.Resume.{resumed}
 use Rattle.sheet.specs.declared.calls.Entry.{Entry}
+use Rattle.sheet.specs.declared.tanks.Tank.{Tank}
+use Rattle.standard.specs.declared.records.RefusedRecord.{RefusedRecord}
 use Rattle.sheet.proofs.laws.Calls.{passes, passed}
 pub use Rattle.sheet_laws.specs.Resumable.{Resumable, OfRecords}
 
@@ -72,17 +81,20 @@ pub opened-of-records : (L : Hundredths) → openedWith L .number ≡ 0 → OfRe
 unfolding openedWith blank
 opened-of-records L z =
     by-test (includes tonnageLengths L.0)
-    (λ t. record { length-in-range = t; resumable = resumable-exactly L [] .0 refl; sheet-is = rw t })
+    (λ t. record { length-in-range = t; resumable = resumable-exactly L [] .0 refl; without-m = refl; sheet-is = rw t })
     (λ f. let two : _≡_ {A = ℕ} 2 0 = rw f at z in absurd (omega arith))
 
--- and one resumed, on which its records stand
-pub resumed-of-records : (L : Hundredths) (records : List Space) → resumed L records .number ≡ 0 → OfRecords L records (resumed L records .sheet)
+-- and one resumed, on which its records stand, their m gone
+pub resumed-of-records : (L : Hundredths) (records : List Space) → resumed L records .number ≡ 0
+    → OfRecords L (allRecorded records) (resumed L records .sheet)
 unfolding resumed
 resumed-of-records L records z =
     by-test (includes tonnageLengths L.0)
     (λ t.
     by-test (eqb (firstRefused L [] records .number) 0)
-    (λ u. record { length-in-range = t; resumable = resumable-exactly L records .0 (eqb-true _ _ u); sheet-is = rw (t, u) })
+    (λ u.
+    let none : firstRefused L [] (allRecorded records) .number ≡ 0 = ap (λ (r : RefusedRecord). r .number) (first-refused-recorded L [] records) ∙ eqb-true _ _ u in
+    record { length-in-range = t; resumable = resumable-exactly L (allRecorded records) .0 none; without-m = recorded-twice records; sheet-is = rw (t, u) })
     (λ f. absurd (eqb-false _ _ f (rw (t, f) at z))))
     (λ f. let two : _≡_ {A = ℕ} 2 0 = rw f at z in absurd (omega arith))
 
@@ -124,7 +136,7 @@ resumable-marked {L} {xs} id standing r e =
 -- an entry whose offsets are accepted is well recorded: its length was in range, its tonnage is at most 100,000,000, and an enclosing id
 -- is recorded only of a room
 pub entry-well-recorded : (t : Hundredths) (e : Entry) (hs bs : List ℕ) → let m = measured (e .kind) t (e .length) hs bs in
-    m .number ≡ 0 → misrecorded (entryOf e (m .tonnage)) ≡ false
+    m .number ≡ 0 → misrecorded (spaceOf t e hs bs) ≡ false
 unfolding inRange entryOf
 entry-well-recorded t e hs bs none =
     let k = kindOf (e .kind) in
@@ -137,3 +149,14 @@ entry-well-recorded t e hs bs none =
     or-fails-of _ _
     (or-fails-of _ _ (le-ltb _ _ (measured-at-most (e .kind) t l hs bs)) (ap not long))
     (by-test (eqb (e .kind) 5) (λ r. rw r) (λ r. rw r))
+
+-- and so is a tank whose measures are in range: it is a room
+pub tank-well-recorded : (L : Hundredths) (xs : List Space) (k : Tank) (ds bs : List ℕ) → tankInRange (k .length) (k .fore) ds bs ≡ true
+    → misrecorded (tankIn L xs k ds bs) ≡ false
+unfolding tankInRange tankOf kindOf
+tank-well-recorded L xs k ds bs ranged =
+    let u = underDeckWith (k .within) xs in
+    let measures = and-left _ (includesAll (breadths UnderDeck) bs) ranged in
+    let both = and-left _ (includesAll (heights UnderDeck) ds) measures in
+    let long = and-left (includes (lengths Room) (k .length .0)) (includes fores (k .fore .0)) both in
+    or-fails-of _ _ (or-fails-of _ _ (le-ltb _ _ (measured-tank-at-most L (u .length) (u .m) (k .length) (k .fore) ds bs)) (ap not long)) refl

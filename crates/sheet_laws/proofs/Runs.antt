@@ -15,14 +15,16 @@ use Rattle.spaces.specs.Space.{emptySpace}
 use Rattle.spaces.proofs.laws.Cases.{by-test}
 use Rattle.sheet.specs.Sheet.{standing, usable, noChange, blank}
 use Rattle.sheet.specs.Changes.{withStanding}
-use Rattle.sheet.specs.Calls.{answered, changed, entered, withdrawal, withdrawn, marking, marked, undone, redone, counted, reported}
+use Rattle.sheet.specs.Calls.{answered, changed, spaceOf, entered, withdrawal, withdrawn, marking, marked, undone, redone, counted, reported}
+use Rattle.sheet.specs.Tanks.{tankIn, tankEntered}
 use Rattle.sheet.specs.declared.changes.Change.{Change}
 use Rattle.sheet.specs.declared.changes.Change.the-variants.{Entered}
 use Rattle.sheet.specs.declared.sheet.Sheet.{Sheet}
 use Rattle.sheet.specs.declared.calls.Entry.{Entry}
 use Rattle.sheet.specs.declared.calls.Changed.{Changed}
+use Rattle.sheet.specs.declared.tanks.Tank.{Tank}
 use Rattle.sheet.proofs.laws.Calls.{applies, passes, is-open, refused}
-use Rattle.sheet_laws.specs.Run.{Call, enter, withdraw, mark, undo, redo, counts, report, answer, after, accepted, ChangeById, spaceEntered, idWithdrawn, idMarked, Log, noLog, logChange, spaceOf, logAfter, logAfterAll, logOf, OpenChanges, noneOpen, oneMore, countsAfter, countsAfterAll, countsOf}
+use Rattle.sheet_laws.specs.Run.{Call, enter, enterTank, withdraw, mark, undo, redo, counts, report, answer, after, accepted, ChangeById, spaceEntered, tankGiven, idWithdrawn, idMarked, Log, noLog, logChange, logAfter, logAfterAll, logOf, OpenChanges, noneOpen, oneMore, countsAfter, countsAfterAll, countsOf}
 use Rattle.sheet_laws.specs.Holds.{RefusedAtNil, HistoryHolds}
 use Rattle.sheet_laws.proofs.Undoable.{Leads, older, nothing, replayed}
 use Rattle.sheet_laws.proofs.History.{Opened, Kept, kept-usable, kept-with, kept-changed, kept-undone, kept-redone}
@@ -38,6 +40,8 @@ pub record Rules (Allowed : Hundredths → List Space → Type 0) : Type 0 where
   pub at-most-200 : (L : Hundredths) (xs : List Space) → Allowed L xs → length xs ≤ 200
   pub entry-fits : (s : Sheet) (e : Entry) (hs bs : List ℕ) → Allowed (s .length) (standing s) → entered s e hs bs .number ≡ 0
       → Fits (Allowed (s .length)) (Entered (spaceOf (s .length) e hs bs)) (spaceEntered (spaceOf (s .length) e hs bs)) (standing s)
+  pub tank-fits : (s : Sheet) (k : Tank) (ds bs : List ℕ) → Allowed (s .length) (standing s) → tankEntered s k ds bs .number ≡ 0
+      → Fits (Allowed (s .length)) (Entered (tankIn (s .length) (standing s) k ds bs)) (tankGiven (s .length) k ds bs) (standing s)
   pub withdrawal-fits : (s : Sheet) (id : ℕ) → Allowed (s .length) (standing s) → withdrawn s id .number ≡ 0
       → Fits (Allowed (s .length)) (withdrawal s id) (idWithdrawn id) (standing s)
   pub mark-fits : (s : Sheet) (id standing' : ℕ) → Allowed (s .length) (standing s) → marked s id standing' .number ≡ 0
@@ -54,8 +58,9 @@ handed-back n s next f = sym (ap (λ (r : Changed). r .sheet) (refused n s next 
 
 -- "A refused change, undo or redo hands back the sheet as it came", and so does a refused report
 pub refused-changes-nothing : (c : Call) (s : Sheet) → (answer c s .number ≡ 0 → ⊥) → answer c s .sheet ≡ s
-unfolding answer entered withdrawn marked undone redone counted reported
+unfolding answer entered tankEntered withdrawn marked undone redone counted reported
 refused-changes-nothing (enter e hs bs) s f = handed-back _ s _ f
+refused-changes-nothing (enterTank k ds bs) s f = handed-back _ s _ f
 refused-changes-nothing (withdraw id) s f = handed-back _ s _ f
 refused-changes-nothing (mark id standing') s f = handed-back _ s _ f
 refused-changes-nothing undo s f = handed-back _ s _ f
@@ -135,9 +140,11 @@ module _ (Allowed : Hundredths → List Space → Type 0) (rules : Rules Allowed
   -- an accepted call: a change as the rules have it, undo and redo under any rules
   accepted-keeps : (c : Call) {s : Sheet} {log : Log} {k : OpenChanges} → KeptSo s log k → answer c s .number ≡ 0
       → KeptSo (answer c s .sheet) (logAfter L c log) (countsAfter c k)
-  unfolding answer entered withdrawn marked undone redone counted reported
+  unfolding answer entered tankEntered withdrawn marked undone redone counted reported
   accepted-keeps (enter e hs bs) {s} h z =
       rw (handed-next _ s _ z) (change-kept h (λ l. spaceEntered (spaceOf l e hs bs)) (rules .entry-fits s e hs bs (allowed-so h) z))
+  accepted-keeps (enterTank k ds bs) {s} h z =
+      rw (handed-next _ s _ z) (change-kept h (λ l. tankGiven l k ds bs) (rules .tank-fits s k ds bs (allowed-so h) z))
   accepted-keeps (withdraw id) {s} h z = rw (handed-next _ s _ z) (change-kept h (λ l. idWithdrawn id) (rules .withdrawal-fits s id (allowed-so h) z))
   accepted-keeps (mark id standing') {s} h z =
       rw (handed-next _ s _ z) (change-kept h (λ l. idMarked id standing') (rules .mark-fits s id standing' (allowed-so h) z))

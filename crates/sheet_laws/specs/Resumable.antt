@@ -6,6 +6,7 @@ use Rattle.measure.specs.declared.units.Hundredths.{Hundredths}
 use Rattle.measure.specs.Ranges.{includes, tonnageLengths}
 use Rattle.standard.specs.Records.{misrecorded}
 use Rattle.standard.specs.Valid.{Valid}
+use Rattle.spaces.specs.Space.{allRecorded}
 use Rattle.spaces.specs.declared.space.Space.{Space}
 use Rattle.spaces_laws.specs.Above.{_∈_}
 use Rattle.sheet.specs.Sheet.{blank}
@@ -21,4 +22,6 @@ pub record Resumable (L : Hundredths) (xs : List Space) : Type 0 where
 pub record OfRecords (L : Hundredths) (records : List Space) (s : Sheet) : Type 0 where
   pub length-in-range : includes tonnageLengths L.0 ≡ true
   pub resumable : Resumable L records
+  -- "0 for every space read from a file or resumed"
+  pub without-m : allRecorded records ≡ records
   pub sheet-is : s ≡ withStanding records (blank true L)

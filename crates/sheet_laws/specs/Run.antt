@@ -5,19 +5,22 @@ use mathlib.Core.Bool.{cond}
 use mathlib.Core.List.{List, [], _∷_, _++_}
 use lib.Dec.{eqb}
 use Rattle.measure.specs.declared.units.Hundredths.{Hundredths}
-use Rattle.measure.specs.Offsets.{measured}
 use Rattle.spaces.specs.declared.space.Space.{Space}
 use Rattle.spaces_laws.specs.Changes.{without, marked as markedById}
-use Rattle.sheet.specs.Calls.{entryOf, entered, withdrawn, marked, undone, redone, counted, reported}
+use Rattle.sheet.specs.Calls.{spaceOf, entered, withdrawn, marked, undone, redone, counted, reported}
+use Rattle.sheet.specs.Tanks.{tankIn, tankEntered}
 use Rattle.sheet.specs.declared.sheet.Sheet.{Sheet}
 use Rattle.sheet.specs.declared.calls.Entry.{Entry}
 use Rattle.sheet.specs.declared.calls.Changed.{Changed}
+use Rattle.sheet.specs.declared.tanks.Tank.{Tank}
 
 -- ---- calls
 
--- with what is handed in: an entry, its heights and breadths; an id; an id and a standing; a justified mark
+-- with what is handed in: an entry, its heights and breadths; a tank, its depths and breadths; an id; an id and a standing; a justified
+-- mark
 pub data Call : Type 0 where
   enter : Entry → List ℕ → List ℕ → Call
+  enterTank : Tank → List ℕ → List ℕ → Call
   withdraw : ℕ → Call
   mark : ℕ → ℕ → Call
   undo : Call
@@ -28,6 +31,7 @@ pub data Call : Type 0 where
 -- "every other call on a sheet takes it and hands back the sheet after it", and answers a number
 unfoldable pub answer : Call → Sheet → Changed
 answer (enter e heights breadths) s = entered s e heights breadths
+answer (enterTank k depths breadths) s = tankEntered s k depths breadths
 answer (withdraw id) s = withdrawn s id
 answer (mark id standing) s = marked s id standing
 answer undo s = undone s
@@ -49,14 +53,18 @@ accepted (c ∷ calls) s =
 -- ---- changes by id
 
 -- "Changes: enter, withdraw, mark (give a new standing, even the same one)."
+-- A tank's tonnage hangs on its U, so it is told as it was handed in, with the tonnage length.
 pub data ChangeById : Type 0 where
   spaceEntered : Space → ChangeById
+  tankGiven : Hundredths → Tank → List ℕ → List ℕ → ChangeById
   idWithdrawn : ℕ → ChangeById
   idMarked : ℕ → ℕ → ChangeById
 
 -- what a change makes of the spaces: a new one comes last in order of entry
 abbrev pub outcome : ChangeById → List Space → List Space
 outcome (spaceEntered x) xs = xs ++ (x ∷ [])
+-- a tank too, measured in the U that it names as that stands then
+outcome (tankGiven L k depths breadths) xs = xs ++ (tankIn L xs k depths breadths ∷ [])
 outcome (idWithdrawn id) xs = without id xs
 outcome (idMarked id standing) xs = markedById id standing xs
 
@@ -89,13 +97,10 @@ abbrev pub logRedo : List ChangeById → List ChangeById → Log
 logRedo notUndone [] = record { notUndone = notUndone; undone = [] }
 logRedo notUndone (c ∷ others) = record { notUndone = c ∷ notUndone; undone = others }
 
--- the space of an entry, measured from its offsets, where L is the tonnage length
-abbrev pub spaceOf : Hundredths → Entry → List ℕ → List ℕ → Space
-spaceOf L e heights breadths = entryOf e (measured (e .kind) L (e .length) heights breadths .tonnage)
-
 -- what an accepted call makes of the log
 abbrev pub logAfter : Hundredths → Call → Log → Log
 logAfter L (enter e heights breadths) log = logChange (spaceEntered (spaceOf L e heights breadths)) log
+logAfter L (enterTank k depths breadths) log = logChange (tankGiven L k depths breadths) log
 logAfter L (withdraw id) log = logChange (idWithdrawn id) log
 logAfter L (mark id standing) log = logChange (idMarked id standing) log
 logAfter L undo log = logUndo (log .notUndone) (log .undone)
@@ -128,6 +133,7 @@ oneMore k = record { undoable = min 64 (k .undoable + 1); redoable = 0 }
 -- what an accepted call makes of the counts
 abbrev pub countsAfter : Call → OpenChanges → OpenChanges
 countsAfter (enter e heights breadths) k = oneMore k
+countsAfter (enterTank t depths breadths) k = oneMore k
 countsAfter (withdraw id) k = oneMore k
 countsAfter (mark id standing) k = oneMore k
 -- "Undo .. takes one from undoable and adds it to redoable; redo .. counts the opposite way"

@@ -1,12 +1,14 @@
--- A space as its record has it ("Spaces").
+-- A space: what its record has ("Spaces"), and m, "4 or 6 for a U entered from offsets, 0 for every other space and for every space read
+-- from a file or resumed" (T-01).
 use Prim.Native.Nat.{ℕ}
 use mathlib.Core.Bool.{Bool, _||_}
+use mathlib.Core.List.{List, map}
 use lib.Dec.{eqb}
 use Rattle.spaces.specs.declared.space.Space.{Space}
 
 -- the record of a free place
 abbrev pub emptySpace : Space
-emptySpace = record { id = 0; within = 0; kind = 0; standing = 0; tonnage = 0; length = record { 0 = 0 } }
+emptySpace = record { id = 0; within = 0; kind = 0; standing = 0; m = 0; tonnage = 0; length = record { 0 = 0 } }
 
 -- the kinds by their codes: 1 U, 2 B, 3 S, 4 H, 5 R
 abbrev pub isUnderDeck : Space → Bool
@@ -29,4 +31,28 @@ isPlain x = eqb (x .standing) 0
 -- a space with another standing, and all else as it was
 abbrev pub restanding : ℕ → Space → Space
 restanding standing x =
-    record { id = x .id; within = x .within; kind = x .kind; standing = standing; tonnage = x .tonnage; length = x .length }
+    record {
+      id = x .id;
+      within = x .within;
+      kind = x .kind;
+      standing = standing;
+      m = x .m;
+      tonnage = x .tonnage;
+      length = x .length;
+    }
+
+-- a space as its record gives it back: its m is gone
+abbrev pub recorded : Space → Space
+recorded x =
+    record {
+      id = x .id;
+      within = x .within;
+      kind = x .kind;
+      standing = x .standing;
+      m = 0;
+      tonnage = x .tonnage;
+      length = x .length;
+    }
+
+abbrev pub allRecorded : List Space → List Space
+allRecorded xs = map recorded xs

@@ -1,4 +1,4 @@
-// A space as its record has it ("Spaces").
+// A space: what its record has ("Spaces"), and m.
 use measure::units::Hundredths;
 ghost use mathlib.Core.Path.{_≡_};
 ghost use Rattle.spaces.specs.Space.{emptySpace};
@@ -10,6 +10,8 @@ pub struct Space {
     pub within: u16,
     pub kind: u8,
     pub standing: u8,
+    // A U's parts of depth, 4 or 6, where it was entered from offsets; else 0. No record holds it.
+    pub m: u8,
     // In hundredths of a ton.
     pub tonnage: u32,
     pub length: Hundredths,
@@ -24,6 +26,7 @@ pub fn empty() -> Space
         within: 0,
         kind: 0,
         standing: 0,
+        m: 0,
         tonnage: 0,
         length: Hundredths(0),
     }

@@ -1,8 +1,10 @@
--- Whole sheets: what a valid sheet is like, what keeps it valid, and that no volume is taken off twice. Read from top to bottom.
+-- Whole sheets: what a valid sheet is like, what keeps it valid, and that no volume is taken off twice; spaces as their records give them
+-- back, and tanks. Read from top to bottom.
 pub mod Tests
 pub mod Refusals
 pub mod Lists
 pub mod Walk
+pub mod Each
 pub mod Entry
 pub mod Valid
 pub mod Levels
@@ -13,3 +15,5 @@ pub mod Order
 pub mod Standings
 pub mod Twice
 pub mod Report
+pub mod Recorded
+pub mod Tanks

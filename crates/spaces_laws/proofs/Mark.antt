@@ -1,10 +1,10 @@
 -- A mark is accepted exactly where the id stands, its kind can take the standing and, unless the standing is plain, all above and below
 -- are plain; then it leaves a valid sheet. Stands on Valid.
-use Prim.Native.Nat.{ℕ, zero, suc}
+use Prim.Native.Nat.{ℕ}
 use mathlib.Core.Path.{_≡_, refl, sym, ap, _∙_, subst}
 use mathlib.Core.Bool.{true, false, not, _&&_}
-use mathlib.Core.List.{List, [], _∷_, _++_, map, map-append, List·Memᴰ·head, Memᴰ·append-right, Memᴰ·of-map}
-use mathlib.Core.Option.{Option, none, some}
+use mathlib.Core.List.{List, _∷_, _++_, map, map-append, List·Memᴰ·head, Memᴰ·append-right, Memᴰ·of-map}
+use mathlib.Core.Option.{Option·map}
 use native.Mathlib.Omega.{arith}
 use borrow.Author.Tests.{eqb-true, eqb-false, eq-eqb, ne-eqb, not-true, not-false}
 use lib.Dec.{eqb}
@@ -15,14 +15,13 @@ use Rattle.measure.specs.Refusals.{none as no-more}
 use Rattle.measure_laws.proofs.Refusals.{accepted}
 use Rattle.spaces.specs.declared.space.Space.{Space}
 use Rattle.spaces.specs.declared.sums.Amount.the-variants.{Inside, Lengths}
-use Rattle.spaces.specs.Space.{isRoom, isPlain}
+use Rattle.spaces.specs.Space.{isPlain}
 use Rattle.standard.specs.Standings.{mayTake}
-use Rattle.spaces.specs.Row.{find, stands, amountOf, sumBy}
-use Rattle.spaces.specs.Enclosure.{enclosing, upward, above, allPlain, below}
+use Rattle.spaces.specs.Row.{find, stands, amountOf}
+use Rattle.spaces.specs.Enclosure.{above, allPlain, below}
 use Rattle.standard.specs.Rules.{cannotTake, plainAbove, markedTwice, markTests, markNumber}
 use Rattle.standard.specs.Valid.{ValidFrom, done, next, Valid}
-use Rattle.spaces.proofs.laws.Cases.{by-test, by-option, not-both}
-use Rattle.spaces.proofs.laws.Enclosure.{upward-next, upward-none}
+use Rattle.spaces.proofs.laws.Cases.{by-test, not-both}
 use Rattle.spaces_laws.specs.Above.{_∈_}
 use Rattle.spaces_laws.specs.Accepted.{Accepted, Markable}
 use Rattle.spaces_laws.specs.Sound.{Sound}
@@ -30,6 +29,7 @@ use Rattle.spaces_laws.proofs.Tests.{and-fails, and-fails-of, and-holds
 use Rattle.spaces_laws.proofs.Refusals.{none-applies, apart, together}
 use Rattle.spaces_laws.proofs.Lists.{unfound-absent, some-of}
 use Rattle.spaces_laws.proofs.Walk.{upward-stands, plain-of-all, all-plain-of, below-exactly}
+use Rattle.spaces_laws.proofs.Each.{sum-each, Keeps, find-each, upward-each}
 use Rattle.spaces_laws.proofs.Entry.{facts-of-entry, entry-of-facts}
 use Rattle.spaces_laws.proofs.Valid.{above-kept, same-by-id, sound-empty, sound-entered, valid-is-sound}
 use Rattle.spaces_laws.specs.Changes.{marking, marked}
@@ -66,10 +66,6 @@ mark-of-facts xs id standing m =
 
 -- ---- the spaces as they stand after a mark
 
-sum-map : (f : Space → ℕ) (g : Space → Space) → ((y : Space) → f (g y) ≡ f y) → (xs : List Space) → sumBy f (map g xs) ≡ sumBy f xs
-sum-map f g h [] = refl
-sum-map f g h (x ∷ xs) = omega (arith, h x, sum-map f g h xs)
-
 all-plain-map : (f : Space → Space) (zs : List Space) → ((z : Space) → z ∈ zs → isPlain (f z) ≡ true) → allPlain (map f zs) ≡ true
 all-plain-map f zs h = all-plain-of (map f zs) (λ y m. let r = Memᴰ·of-map f zs m in sym (ap isPlain (r .2)) ∙ h (r .0) (r .1))
 
@@ -78,33 +74,15 @@ module _ (id standing : ℕ) where
   abbrev new : Space → Space
   new = marking id standing
 
-  abbrev newSome : Option Space → Option Space
-  newSome none = none
-  newSome (some z) = some (new z)
+  -- which is the same but for its standing
+  keeps : Keeps new
+  keeps = record { id = λ y. refl; within = λ y. refl; kind = λ y. refl }
 
   plain-marked : (y : Space) → y .id ≡ id → isPlain (new y) ≡ eqb standing 0
   plain-marked y e = rw (eq-eqb (y .id) id e)
 
   plain-other : (y : Space) → (y .id ≡ id → ⊥) → isPlain (new y) ≡ isPlain y
   plain-other y n = rw (ne-eqb (y .id) id n)
-
-  find-marked : (other : ℕ) (xs : List Space) → find other (map new xs) ≡ newSome (find other xs)
-  find-marked other [] = refl
-  find-marked other (x ∷ xs) = by-test (eqb (x .id) other) (λ e. rw e) (λ e. rw e (find-marked other xs))
-
-  enclosing-marked : (xs : List Space) (y : Space) → enclosing (map new xs) (new y) ≡ newSome (enclosing xs y)
-  enclosing-marked xs y = by-test (isRoom y) (λ r. rw r (find-marked (y .within) xs)) (λ r. rw r)
-
-  upward-marked : (left : ℕ) (xs : List Space) (y : Space) → upward left (map new xs) (new y) ≡ map new (upward left xs y)
-  upward-marked zero xs y = refl
-  upward-marked (suc left) xs y =
-      by-option (enclosing xs y)
-      (λ e.
-      upward-none (suc left) (map new xs) (new y) (enclosing-marked xs y ∙ ap newSome e) ∙ sym (ap (map new) (upward-none (suc left) xs y e)))
-      (λ z e.
-      upward-next left (map new xs) (new y) (enclosing-marked xs y ∙ ap newSome e)
-      ∙ ap (λ (l : List Space). new z ∷ l) (upward-marked left xs z)
-      ∙ sym (ap (map new) (upward-next left xs y e)))
 
   -- ---- an entry after the spaces so marked
 
@@ -140,15 +118,15 @@ module _ (id standing : ℕ) where
         record {
           id-at-least = a .id-at-least;
           id-at-most = a .id-at-most;
-          id-free = find-marked (x .id) pre ∙ ap newSome (a .id-free);
+          id-free = find-each new keeps (x .id) pre ∙ ap (Option·map new) (a .id-free);
           enclosed = λ r.
               let h = a .enclosed r in
-              record { home = new (h .home); home-stands = find-marked (x .within) pre ∙ ap newSome (h .home-stands); no-hatchway = h .no-hatchway };
+              record { home = new (h .home); home-stands = find-each new keeps (x .within) pre ∙ ap (Option·map new) (h .home-stands); no-hatchway = h .no-hatchway };
           may-take = takes-marked;
-          level-at-most = omega (arith, a .level-at-most, ap length (upward-marked 8 pre x), length-map (above pre x) new);
-          plain-above = λ p. ap allPlain (upward-marked 8 pre x) ∙ all-plain-map new (above pre x) (plain-above-marked p);
-          rooms-fit = λ r. omega (arith, a .rooms-fit r, sum-map (amountOf (Inside (x .within))) new (λ y. refl) pre);
-          lengths-fit = λ u. omega (arith, a .lengths-fit u, sum-map (amountOf Lengths) new (λ y. refl) pre);
+          level-at-most = omega (arith, a .level-at-most, ap length (upward-each new keeps 8 pre x), length-map (above pre x) new);
+          plain-above = λ p. ap allPlain (upward-each new keeps 8 pre x) ∙ all-plain-map new (above pre x) (plain-above-marked p);
+          rooms-fit = λ r. omega (arith, a .rooms-fit r, sum-each (amountOf (Inside (x .within))) new (λ y. refl) pre);
+          lengths-fit = λ u. omega (arith, a .lengths-fit u, sum-each (amountOf Lengths) new (λ y. refl) pre);
           place-left = omega (arith, a .place-left, length-map pre new);
         }
 

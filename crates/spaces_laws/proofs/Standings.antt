@@ -40,6 +40,11 @@ may-take-is (suc (suc (suc (suc (suc zero))))) s t =
     by-row (MayTake 5) true true true true (λ _. plain-R) (λ _. exempt-R) (λ _. ballast-R) (λ _. deducted-R) s t
 may-take-is (suc (suc (suc (suc (suc (suc k)))))) s t = no t
 
+-- "U and H take only 0"
+pub under-deck-plain : (standing : ℕ) → mayTake 1 standing ≡ true → eqb standing 0 ≡ true
+unfolding mayTake
+under-deck-plain s t = by-row (λ (n : ℕ). eqb n 0 ≡ true) true false false false (λ _. refl) no no no s t
+
 pub may-take-only : {kind standing : ℕ} → MayTake kind standing → mayTake kind standing ≡ true
 unfolding mayTake
 may-take-only plain-U = refl

@@ -4,6 +4,7 @@ pub mod Standings
 pub mod Above
 pub mod Levels
 pub mod Accepted
+pub mod Tanks
 pub mod Sound
 pub mod Gross
 pub mod Changes

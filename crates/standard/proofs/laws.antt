@@ -2,3 +2,4 @@
 pub mod Standings
 pub mod Judged
 pub mod Records
+pub mod Tanks

@@ -52,16 +52,20 @@ overfull L xs x = passesEnclosing xs x (enclosing xs x) || (isUnderDeck x && ltb
 abbrev pub noPlace : List Space → Bool
 noPlace xs = leb 200 (length xs)
 
-abbrev pub entryTests : Hundredths → List Space → Space → List (Bool × ℕ)
-entryTests L xs x =
+-- the tests of whatever is entered, in the table's order; of 6 and 9 there is more to judge of a tank
+abbrev pub testsOf : List Space → Space → (misplaced overfull : Bool) → List (Bool × ℕ)
+testsOf xs x misplaced overfull =
     (idRefused xs x, 4)
     ∷ (unhoused xs x, 5)
-    ∷ (misplaced xs x, 6)
+    ∷ (misplaced, 6)
     ∷ (tooDeep xs x, 7)
     ∷ (offTwice xs x, 8)
-    ∷ (overfull L xs x, 9)
+    ∷ (overfull, 9)
     ∷ (noPlace xs, 10)
     ∷ []
+
+abbrev pub entryTests : Hundredths → List Space → Space → List (Bool × ℕ)
+entryTests L xs x = testsOf xs x (misplaced xs x) (overfull L xs x)
 
 unfoldable pub entryNumber : Hundredths → List Space → Space → ℕ
 entryNumber L xs x = firstOf (entryTests L xs x)

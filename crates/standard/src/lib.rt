@@ -8,3 +8,4 @@ pub mod records;
 pub mod refusals;
 pub mod rules;
 pub mod standings;
+pub mod tanks;

@@ -1,6 +1,6 @@
 // Recorded spaces judged one after another, each as an entry with its recorded tonnage and length after those before it.
 use crate::rules::found_if;
-use crate::rules::judged;
+use crate::rules::judged_entry;
 use measure::kinds::ROOM;
 use measure::kinds::kind_of;
 use measure::ranges::length_fits;
@@ -17,7 +17,7 @@ ghost use mathlib.Core.Bool.{cond, false};
 ghost use mathlib.Core.List.{[]};
 ghost use lib.ListN.{take};
 ghost use Rattle.standard.specs.Records.{misrecorded as misrecordedOf, firstRefused};
-ghost use Rattle.standard.specs.Handed.{searched, judgedNumber};
+ghost use Rattle.standard.specs.Handed.{searched, entryNumberBy};
 
 // The number with which a record was refused and its position from 1; 0 and 0 where none was.
 pub struct RefusedRecord {
@@ -48,12 +48,12 @@ fn misrecorded(x: Space) -> bool
 // The number with which a record is refused, or 0, by its enclosing space and what else is around it. Those before it are fewer
 // than 200.
 fn record_number(x: Space, tonnage_length: Hundredths, found: Found, around: Around) -> u8
-    ensures { λ r. ⌜ r ≡ cond (misrecordedOf x) 2 (judgedNumber «tonnage_length» x (searched found) around false) ⌝ }
+    ensures { λ r. ⌜ r ≡ cond (misrecordedOf x) 2 (entryNumberBy «tonnage_length» x (searched found) around false) ⌝ }
 {
     if misrecorded(x) {
         return OUTSIDE_ITS_RANGE;
     }
-    judged(x, tonnage_length, found, around, false)
+    judged_entry(x, tonnage_length, found, around, false)
 }
 
 // The first of the records that is refused; a count over 200 is all of them.

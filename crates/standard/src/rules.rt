@@ -36,9 +36,8 @@ ghost use lib.ListN.{take};
 ghost use Rattle.spaces.specs.Space.{emptySpace, isRoom, isPlain};
 ghost use Rattle.spaces.specs.Row.{isSome};
 ghost use Rattle.spaces.specs.Enclosure.{above, allPlain, below};
-ghost use Rattle.standard.specs.Standings.{mayTake};
-ghost use Rattle.standard.specs.Rules.{inHatchway, entryNumber, enclosesRoom, withdrawRuling, markRuling};
-ghost use Rattle.standard.specs.Handed.{searched, overfullBy, judgedNumber};
+ghost use Rattle.standard.specs.Rules.{entryNumber, enclosesRoom, withdrawRuling, markRuling};
+ghost use Rattle.standard.specs.Handed.{searched, overfullBy, judgedNumber, misplacedBy, entryNumberBy, SeenAs};
 
 // Ids go from 1 to 9,999.
 pub const GREATEST_ID: u16 = 9_999;
@@ -49,6 +48,13 @@ pub struct Ruling {
     pub number: u8,
     pub place: usize,
     pub space: Space,
+}
+
+// What an entry finds on the spaces that stand: its enclosing space, what else is around it, and whether 200 stand.
+pub(crate) struct Seen {
+    pub(crate) found: Found,
+    pub(crate) around: Around,
+    pub(crate) full: bool,
 }
 
 // 4: new id outside its range or already standing.
@@ -75,8 +81,8 @@ fn unhoused(x: Space, found: Found) -> bool
 }
 
 // 6: kind can't take this standing, or the enclosing space is a hatchway.
-fn misplaced(x: Space, found: Found) -> bool
-    ensures { λ r. ⌜ r ≡ (not (mayTake (x .kind) (x .standing)) || inHatchway (searched found)) ⌝ }
+pub(crate) fn misplaced(x: Space, found: Found) -> bool
+    ensures { λ r. ⌜ r ≡ misplacedBy x (searched found) ⌝ }
 {
     if !may_take(x.kind, x.standing) {
         return true;
@@ -98,7 +104,7 @@ fn off_twice(x: Space, plain_above: bool) -> bool
 }
 
 // 9: rooms would pass the enclosing tonnage, or U lengths the tonnage length.
-fn overfull(x: Space, tonnage_length: Hundredths, found: Found, beside: u64) -> bool
+pub(crate) fn overfull(x: Space, tonnage_length: Hundredths, found: Found, beside: u64) -> bool
     ensures { λ r. ⌜ r ≡ overfullBy «tonnage_length» x (searched found) beside ⌝ }
 {
     match found {
@@ -123,15 +129,17 @@ fn passes(sum: u64, more: u32, limit: u32) -> bool
     most - sum < more as u64
 }
 
-// The number with which an entry of x is refused, or 0, by its enclosing space, what else is around it, and whether 200 spaces stand.
+// The number with which x is refused, or 0, by its enclosing space, what else is around it, whether 6 and 9 apply, and whether 200
+// spaces stand.
 pub(crate) fn judged(
     x: Space,
-    tonnage_length: Hundredths,
     found: Found,
     around: Around,
+    misplaced: bool,
+    overfull: bool,
     full: bool,
 ) -> u8
-    ensures { λ r. ⌜ r ≡ judgedNumber «tonnage_length» x (searched found) around full ⌝ }
+    ensures { λ r. ⌜ r ≡ judgedNumber x (searched found) around misplaced overfull full ⌝ }
 {
     if id_refused(x, around.taken) {
         return ID_TAKEN;
@@ -139,7 +147,7 @@ pub(crate) fn judged(
     if unhoused(x, found) {
         return NOT_STANDING;
     }
-    if misplaced(x, found) {
+    if misplaced {
         return MISPLACED;
     }
     if LEVELS <= around.levels {
@@ -148,13 +156,28 @@ pub(crate) fn judged(
     if off_twice(x, around.plain) {
         return OFF_TWICE;
     }
-    if overfull(x, tonnage_length, found, around.beside) {
+    if overfull {
         return OVERFULL;
     }
     if full {
         return NO_PLACE;
     }
     0
+}
+
+// The number with which an entry of x is refused, or 0, by its enclosing space, what else is around it, and whether 200 spaces stand.
+pub(crate) fn judged_entry(
+    x: Space,
+    tonnage_length: Hundredths,
+    found: Found,
+    around: Around,
+    full: bool,
+) -> u8
+    ensures { λ r. ⌜ r ≡ entryNumberBy «tonnage_length» x (searched found) around full ⌝ }
+{
+    let misplaced = misplaced(x, found);
+    let overfull = overfull(x, tonnage_length, found, around.beside);
+    judged(x, found, around, misplaced, overfull, full)
 }
 
 // The space z, where it is the enclosing one.
@@ -167,21 +190,29 @@ pub(crate) fn found_if(enclosed: bool, z: Space) -> Found
     Found::Nothing
 }
 
-// The number with which an entry of x is refused, or 0.
-pub fn entry_number(spaces: [Space; 200], count: usize, tonnage_length: Hundredths, x: Space) -> u8
-    ensures { λ r. ⌜ r ≡ entryNumber «tonnage_length» (take count spaces) x ⌝ }
+// What an entry of x finds.
+pub(crate) fn see(spaces: [Space; 200], count: usize, x: Space) -> Seen
+    ensures { λ r. ⌜ SeenAs (take count spaces) x r ⌝ }
 {
     let n = used(count);
     let around = around_space(spaces, count, x);
     let home = around.home;
     let z = spaces[lesser(home, PLACES - 1)];
-    judged(
-        x,
-        tonnage_length,
-        found_if(home < n, z),
+    Seen {
+        found: found_if(home < n, z),
         around,
-        PLACES <= n,
-    )
+        full: PLACES <= n,
+    }
+}
+
+// The number with which an entry of x is refused, or 0.
+pub fn entry_number(spaces: [Space; 200], count: usize, tonnage_length: Hundredths, x: Space) -> u8
+    ensures { λ r. ⌜ r ≡ entryNumber «tonnage_length» (take count spaces) x ⌝ }
+{
+    let seen = see(spaces, count, x);
+    let found = seen.found;
+    let around = seen.around;
+    judged_entry(x, tonnage_length, found, around, seen.full)
 }
 
 // 11: withdrawal of a space that encloses a room.

@@ -3,6 +3,8 @@
 use dayfile::Reading;
 use dayfile::Written;
 use libc::STDOUT_FILENO;
+use measure::tanks;
+use measure::units::Hundredths;
 use script::hex;
 use script::remarks;
 use script::remarks::Remark;
@@ -89,7 +91,48 @@ fn print_space(space: Space) {
     print_number(space.kind as u64, b":");
     print_number(space.standing as u64, b":");
     print_number(space.tonnage as u64, b":");
-    print_number(space.length.0 as u64, b"");
+    print_number(space.length.0 as u64, b":");
+    print_number(space.m as u64, b"");
+}
+
+// Where a tank is measured: its parts and, of each section, the under-deck station inside whose section it is.
+pub fn zones(
+    tonnage_length: Hundredths,
+    under_deck: Hundredths,
+    length: Hundredths,
+    fore: Hundredths,
+) {
+    let laid_out = tanks::lay_out(tonnage_length, under_deck, length, fore);
+    print_number(laid_out.number as u64, b" ");
+    print_number(laid_out.parts as u64, b" ");
+    if laid_out.sections == 0 {
+        print(b"-");
+    }
+    print_stations(tonnage_length, under_deck, length, fore, laid_out.sections);
+    print(b"\n");
+}
+
+fn print_stations(
+    tonnage_length: Hundredths,
+    under_deck: Hundredths,
+    length: Hundredths,
+    fore: Hundredths,
+    sections: usize,
+) {
+    let mut i = 0;
+    while i < sections {
+        let station = tanks::section_station(tonnage_length, under_deck, length, fore, i);
+        print_listed(i, station as u64);
+        i += 1;
+    }
+}
+
+// A number of a list, by its place.
+fn print_listed(place: usize, x: u64) {
+    if 0 < place {
+        print(b",");
+    }
+    print_number(x, b"");
 }
 
 // Bytes as hex digits, some thousands at a time; `-` where there are none.

@@ -15,31 +15,36 @@ use script::words;
 use sheet::Changed;
 use sheet::Entry;
 use sheet::Sheet;
+use sheet::Tank;
 
 // The calls, by the places of their forms (`script::calls::survey_line`); the last is `spaces`.
 const OPEN: usize = 0;
 
 const ENTER: usize = 1;
 
-const WITHDRAW: usize = 2;
+const ENTER_TANK: usize = 2;
 
-const MARK: usize = 3;
+const WITHDRAW: usize = 3;
 
-const UNDO: usize = 4;
+const MARK: usize = 4;
 
-const REDO: usize = 5;
+const UNDO: usize = 5;
 
-const COUNTS: usize = 6;
+const REDO: usize = 6;
 
-const REPORT: usize = 7;
+const COUNTS: usize = 7;
 
-const WRITE: usize = 8;
+const REPORT: usize = 8;
 
-const WRITE_FILLED: usize = 9;
+const WRITE: usize = 9;
 
-const READ: usize = 10;
+const WRITE_FILLED: usize = 10;
 
-const READ_BEFORE: usize = 11;
+const READ: usize = 11;
+
+const READ_BEFORE: usize = 12;
+
+const ZONES: usize = 13;
 
 fn main() {
     let mut script = text::script_buffer();
@@ -79,7 +84,8 @@ fn answer_line(sheet: Sheet, line: &[u8]) -> Sheet {
 fn make(sheet: Sheet, line: &[u8], call: usize) -> Sheet {
     match call {
         OPEN => answers::changed(Sheet::open(Hundredths(words::measure_in(words::word(line, 1))))),
-        ENTER => answers::changed(enter(sheet, line)),
+        ENTER => answers::changed(enter(sheet, line, false)),
+        ENTER_TANK => answers::changed(enter(sheet, line, true)),
         WITHDRAW => answers::changed(sheet.withdraw(words::id_in(words::word(line, 1)))),
         MARK => answers::changed(mark(sheet, line)),
         UNDO => answers::changed(sheet.undo()),
@@ -90,6 +96,7 @@ fn make(sheet: Sheet, line: &[u8], call: usize) -> Sheet {
         WRITE_FILLED => write(sheet, line, words::code_in(words::word(line, 4))),
         READ => read(line, 1, false),
         READ_BEFORE => read(line, 2, true),
+        ZONES => zones(sheet, line),
         _ => answers::spaces(sheet),
     }
 }
@@ -128,13 +135,26 @@ fn mark(sheet: Sheet, line: &[u8]) -> Changed {
     sheet.mark(id, standing)
 }
 
-fn enter(sheet: Sheet, line: &[u8]) -> Changed {
-    let entry = entry(line);
+// Enters a space or a tank, with the two lists of the line.
+fn enter(sheet: Sheet, line: &[u8], is_tank: bool) -> Changed {
     let mut heights = [0u32; 1024];
     let h = words::measures(words::word(line, 6), &mut heights);
     let mut breadths = [0u32; 1024];
     let b = words::measures(words::word(line, 7), &mut breadths);
-    sheet.enter(entry, &heights[..h], &breadths[..b])
+    enter_from(sheet, line, is_tank, &heights[..h], &breadths[..b])
+}
+
+fn enter_from(
+    sheet: Sheet,
+    line: &[u8],
+    is_tank: bool,
+    heights: &[u32],
+    breadths: &[u32],
+) -> Changed {
+    if is_tank {
+        return sheet.enter_tank(tank(line), heights, breadths);
+    }
+    sheet.enter(entry(line), heights, breadths)
 }
 
 fn entry(line: &[u8]) -> Entry {
@@ -150,4 +170,34 @@ fn entry(line: &[u8]) -> Entry {
         standing,
         length: Hundredths(length),
     }
+}
+
+fn tank(line: &[u8]) -> Tank {
+    let id = words::id_in(words::word(line, 1));
+    let within = words::id_in(words::word(line, 2));
+    let standing = words::code_in(words::word(line, 3));
+    let length = words::measure_in(words::word(line, 4));
+    let fore = words::measure_in(words::word(line, 5));
+    Tank {
+        id,
+        within,
+        standing,
+        length: Hundredths(length),
+        fore: Hundredths(fore),
+    }
+}
+
+// Where a tank is measured, which needs no sheet.
+fn zones(sheet: Sheet, line: &[u8]) -> Sheet {
+    let tonnage_length = words::measure_in(words::word(line, 1));
+    let under_deck = words::measure_in(words::word(line, 2));
+    let length = words::measure_in(words::word(line, 3));
+    let fore = words::measure_in(words::word(line, 4));
+    answers::zones(
+        Hundredths(tonnage_length),
+        Hundredths(under_deck),
+        Hundredths(length),
+        Hundredths(fore),
+    );
+    sheet
 }

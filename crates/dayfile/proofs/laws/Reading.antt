@@ -13,6 +13,7 @@ use Rattle.measure.specs.Ranges.{includes, tonnageLengths}
 use Rattle.measure.specs.Refusals.{firstOf}
 use Rattle.spaces.specs.Space.{emptySpace}
 use Rattle.standard.specs.Gross.{gross, net}
+use Rattle.spaces.specs.Space.{allRecorded}
 use Rattle.spaces.specs.declared.space.Space.{Space}
 use Rattle.spaces.proofs.laws.Cases.{by-test, or-fails}
 use Rattle.sheet.specs.Sheet.{standing, blank}
@@ -133,6 +134,11 @@ judged L before (numbers ∷ rest) = by (λ first. judged L first rest) (fitting
     by others false e = out-of-range L before numbers rest e
     by others true e = in-range L before numbers rest e others
 
+-- a space of a record's numbers has no m to lose
+pub no-m : (all : List (List ℕ)) → allRecorded (spacesOf all) ≡ spacesOf all
+no-m [] = refl
+no-m (numbers ∷ rest) = ap (λ (xs : List Space). spaceOf numbers ∷ xs) (no-m rest)
+
 -- what the sheet's own `resumed` answers of a file's records
 pub record Resumes (L : Hundredths) (all : List (List ℕ)) : Type 0 where
   pub position-is : resumed L (eachReadAs all) .position ≡ firstFaulty L [] all
@@ -148,7 +154,7 @@ resumes L all fits = by (eqb (firstRefused L [] (eachReadAs all) .number) 0) ref
     by : (t : Bool) → eqb (firstRefused L [] (eachReadAs all) .number) 0 ≡ t → Resumes L all
     by true e =
         let z = j .none-faulty (eqb-true _ 0 e) in
-        record { position-is = rw (fits, e) (sym z); sheet-is = λ none. rw (fits, e, j .all-read none) }
+        record { position-is = rw (fits, e) (sym z); sheet-is = λ none. rw (fits, e, j .all-read none, no-m all) }
     by false e =
         let faulty' : firstFaulty L [] all ≡ 0 → ⊥ = λ none. eqb-false _ 0 e (j .none-refused none) in
         record { position-is = rw (fits, e) (j .position-is); sheet-is = λ none. absurd (faulty' none) }

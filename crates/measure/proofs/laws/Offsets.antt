@@ -73,12 +73,14 @@ module _ (k : Kind) (t l : Hundredths) (hs bs : List ℕ) (taken : Taken k t l h
 pub under-deck-taken : (t l : Hundredths) (hs bs : List ℕ) → Taken UnderDeck t l hs bs
     → UnderDeckHanded l (underDeckParts t l) (depthParts (middleOf hs)) hs bs
 under-deck-taken t l hs bs taken =
+    let stations = taken-stations UnderDeck t l hs bs taken in
     record {
+      parts = under-deck-even t l;
       long = taken-long UnderDeck t l hs bs taken;
+      stations = stations;
       sections = record {
-        parts = under-deck-even t l;
         depth-parts = depth-even (middleOf hs);
-        stations = taken-stations UnderDeck t l hs bs taken;
+        few = omega (arith, stations, most (under-deck-even t l));
         count = taken-breadths UnderDeck t l hs bs taken;
         deep = taken-high UnderDeck t l hs bs taken;
         broad = taken-broad UnderDeck t l hs bs taken;

@@ -10,11 +10,11 @@ use Rattle.measure.specs.Ranges.{includes, includesAll}
 use Rattle.measure.specs.Handed.{AllAtMost, none, more}
 use Rattle.measure.specs.declared.ranges.Range.{Range}
 use Rattle.measure.proofs.laws.Tests.{and-left, and-right}
-use Rattle.measure.proofs.laws.Multipliers.{drop-step}
+use Rattle.measure.proofs.laws.Lists.{drop-step}
 
 pub includes-all-step : (r : Range) (i : ℕ) (xs : List ℕ) → i < length xs
     → includesAll r (drop i xs) ≡ (includes r (getD xs i 0) && includesAll r (drop (i + 1) xs))
-includes-all-step r i xs h = ap (includesAll r) (drop-step xs i h)
+includes-all-step r i xs h = ap (includesAll r) (drop-step xs i 0 h)
 
 pub includes-most : (r : Range) (x : ℕ) → includes r x ≡ true → x ≤ r .most
 unfolding includes

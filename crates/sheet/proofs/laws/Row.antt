@@ -1,6 +1,6 @@
 -- Moving places of an array: the loops that copy one list into another, and parts of lists.
-use mathlib.Core.Path.{_≡_, sym, ap, _∙_}
-use mathlib.Core.List.{List, [], _∷_, _++_}
+use mathlib.Core.Path.{_≡_, refl, sym, ap, _∙_}
+use mathlib.Core.List.{List, [], _∷_, _++_, map}
 use Prim.Native.Nat.{ℕ, zero, suc, _+_, _-_, _≤_, _<_}
 use native.Mathlib.Nat.{sub-self, sub-zero, zero-sub}
 use native.Mathlib.Numerals.{add-one}
@@ -16,6 +16,12 @@ drop-take (suc a) (suc b) [] = sym (take-nil (suc b - suc a))
 drop-take (suc a) (suc b) (x ∷ l) =
     let e : b - a ≡ suc b - suc a = omega arith in
     drop-take a b l ∙ ap (λ (k : ℕ). take k (drop a l)) e
+
+-- the first n of what is made of each
+pub take-map : {A B : Type 0} (f : A → B) (n : ℕ) (l : List A) → take n (map f l) ≡ map f (take n l)
+take-map f zero l = refl
+take-map f (suc n) [] = refl
+take-map {B = B} f (suc n) (x ∷ l) = ap (λ (ys : List B). f x ∷ ys) (take-map f n l)
 
 -- the first n, one behind them, and the rest from n + 1 on: the element at n set
 pub behind-first : {A : Type 0} (l : List A) (n : ℕ) (x : A) → n < length l → take n l ++ (x ∷ []) ++ drop (n + 1) l ≡ set l n x

@@ -2,7 +2,7 @@
 use Prim.Native.Nat.{ℕ, _+_, _≤_, _<_}
 use mathlib.Core.Path.{_≡_, refl, sym, ap, _∙_}
 use mathlib.Core.Bool.{Bool, true, false, cond, not, _&&_, _||_}
-use mathlib.Core.List.{List, [], _∷_}
+use mathlib.Core.List.{List}
 use mathlib.Core.Option.{Option, none, some}
 use native.Mathlib.Nat.{min-le-left}
 use native.Mathlib.Omega.{arith}
@@ -12,7 +12,7 @@ use lib.ListN.{length, take, getD, length-take}
 use lib.Seq.{take-all, getD-take}
 use Rattle.measure.specs.declared.units.Hundredths.{Hundredths}
 use Rattle.measure.specs.Refusals.{firstOf}
-use Rattle.spaces.specs.Space.{emptySpace, isUnderDeck, isRoom, isPlain}
+use Rattle.spaces.specs.Space.{emptySpace, isUnderDeck, isRoom}
 use Rattle.spaces.specs.Row.{used, find, placeOf, isSome, sumOf}
 use Rattle.spaces.specs.Enclosure.{enclosing, above}
 use Rattle.spaces.specs.Around.{enclosingPlace, aroundOf}
@@ -22,8 +22,8 @@ use Rattle.spaces.specs.declared.sums.Amount.the-variants.{Inside, Lengths}
 use Rattle.spaces.proofs.laws.Cases.{by-test, by-option, none-not-some}
 use Rattle.spaces.proofs.laws.Row.{used-is}
 use Rattle.spaces.proofs.laws.Climb.{found-before, enclosing-before}
-use Rattle.standard.specs.Rules.{unhoused, misplaced, overfull, noPlace, entryTests, entryNumber}
-use Rattle.standard.specs.Handed.{overfullBy, judgedNumber}
+use Rattle.standard.specs.Rules.{unhoused, misplaced, overfull, noPlace, testsOf, entryNumber}
+use Rattle.standard.specs.Handed.{overfullBy, judgedTests, judgedNumber, misplacedBy, entryNumberBy}
 
 -- a room is no U, and only a room is enclosed
 no-under-deck : (x : Space) → isRoom x ≡ true → isUnderDeck x ≡ false
@@ -83,6 +83,11 @@ unfolding aroundOf
 beside-others xs x e =
     by-test (ltb (enclosingPlace xs x) (length xs)) (λ t. none-not-some e (rw t at (sym (enclosed-is xs x)))) (λ f. rw f)
 
+-- the enclosing space, by its place as what is around tells it
+pub home-encloses : (xs : List Space) (x : Space) (a : Around) → a ≡ aroundOf xs x → enclosedAt (a .home) xs ≡ enclosing xs x
+unfolding aroundOf
+home-encloses xs x a around = ap (λ (b : Around). enclosedAt (b .home) xs) around ∙ enclosed-is xs x
+
 module _ (L : Hundredths) (xs : List Space) (x : Space) where
   same-unhoused : (isRoom x && not (isSome (enclosing xs x))) ≡ unhoused xs x
   same-unhoused = by-test (isRoom x) (λ r. rw r) (λ r. rw r)
@@ -98,17 +103,10 @@ module _ (L : Hundredths) (xs : List Space) (x : Space) where
       or-false false = refl
 
   -- the tests by what is around, and by the definition
-  same-tests : firstOf
-      ((ltb (x .id) 1 || ltb 9999 (x .id) || aroundOf xs x .taken, 4)
-      ∷ (unhoused xs x, 5)
-      ∷ (misplaced xs x, 6)
-      ∷ (leb 8 (aroundOf xs x .levels), 7)
-      ∷ (not (isPlain x) && not (aroundOf xs x .plain), 8)
-      ∷ (overfull L xs x, 9)
-      ∷ (noPlace xs, 10)
-      ∷ []) ≡ firstOf (entryTests L xs x)
+  same-tests : (misplaced overfull : Bool)
+      → firstOf (judgedTests x (enclosing xs x) (aroundOf xs x) misplaced overfull (noPlace xs)) ≡ firstOf (testsOf xs x misplaced overfull)
   unfolding aroundOf
-  same-tests = rw (one-level-more (length (above xs x)))
+  same-tests misplaced overfull = rw (same-unhoused, one-level-more (length (above xs x)))
     where
       one-level-more : (n : ℕ) → leb 8 n ≡ ltb 8 (n + 1)
       one-level-more n =
@@ -116,14 +114,18 @@ module _ (L : Hundredths) (xs : List Space) (x : Space) where
           (λ t. t ∙ sym (lt-ltb 8 (n + 1) (omega (arith, leb-true 8 n t))))
           (λ f. f ∙ sym (le-ltb 8 (n + 1) (omega (arith, leb-false 8 n f))))
 
-  home-encloses : enclosedAt (aroundOf xs x .home) xs ≡ enclosing xs x
-  unfolding aroundOf
-  home-encloses = enclosed-is xs x
+  -- as the code has it: the enclosing space, what is around, and whether all places are taken
+  module _ (o : Option Space) (a : Around) (full : Bool) (found : o ≡ enclosing xs x) (around : a ≡ aroundOf xs x) (all : full ≡ noPlace xs) where
+    pub judged-is : (misplaced overfull : Bool) → judgedNumber x o a misplaced overfull full ≡ firstOf (testsOf xs x misplaced overfull)
+    unfolding judgedNumber
+    judged-is misplaced overfull = rw (found, around, all) (same-tests misplaced overfull)
 
-  -- as the code has it: what is around, the enclosing space by its place, and whether all places are taken
-  pub judged-is : (o : Option Space) (a : Around) (full : Bool) → a ≡ aroundOf xs x → o ≡ enclosedAt (a .home) xs → full ≡ noPlace xs
-      → (r : ℕ) → r ≡ judgedNumber L x o a full → r ≡ entryNumber L xs x
-  unfolding judgedNumber entryNumber
-  judged-is o a full around found all r e =
-      let enclosed : o ≡ enclosing xs x = found ∙ ap (λ (b : Around). enclosedAt (b .home) xs) around ∙ home-encloses in
-      e ∙ rw (enclosed, around, all, same-unhoused, same-overfull) same-tests
+    pub overfull-is : overfullBy L x o (a .beside) ≡ overfull L xs x
+    overfull-is = rw (found, around) same-overfull
+
+    pub misplaced-is : misplacedBy x o ≡ misplaced xs x
+    misplaced-is = ap (misplacedBy x) found
+
+    pub entry-is : entryNumberBy L x o a full ≡ entryNumber L xs x
+    unfolding entryNumber
+    entry-is = judged-is (misplacedBy x o) (overfullBy L x o (a .beside)) ∙ rw (misplaced-is, overfull-is)

@@ -1,6 +1,6 @@
 -- Records judged one after another: one passed, one refused, and the end; and the number of one, by what is around it.
 use Prim.Native.Nat.{ℕ, _+_, _≤_, _<_}
-use mathlib.Core.Path.{_≡_, refl, sym, ap, _∙_}
+use mathlib.Core.Path.{_≡_, sym, ap, _∙_}
 use mathlib.Core.Bool.{false, cond}
 use mathlib.Core.List.{List}
 use mathlib.Core.Option.{Option}
@@ -17,8 +17,8 @@ use Rattle.spaces.proofs.laws.Cases.{by-test}
 use Rattle.spaces.proofs.laws.Row.{one-ahead, one-passed}
 use Rattle.standard.specs.Rules.{entryNumber}
 use Rattle.standard.specs.Records.{misrecorded, recordNumber, firstRefused}
-use Rattle.standard.specs.Handed.{judgedNumber}
-use Rattle.standard.proofs.laws.Judged.{enclosedAt, judged-is}
+use Rattle.standard.specs.Handed.{entryNumberBy}
+use Rattle.standard.proofs.laws.Judged.{enclosedAt, home-encloses, entry-is}
 
 module _ (L : Hundredths) (xs : List Space) (i : ℕ) where
   pub record-passed : i < length xs → recordNumber L (take i xs) (getD xs i emptySpace) ≡ 0
@@ -40,10 +40,12 @@ module _ (L : Hundredths) (xs : List Space) (i : ℕ) where
 
 pub record-number-is : (L : Hundredths) (xs : List Space) (x : Space) (o : Option Space) (a : Around) → a ≡ aroundOf xs x → o ≡ enclosedAt (a .home) xs
     → length xs < 200
-    → (y : Space) → y ≡ x → (r : ℕ) → r ≡ cond (misrecorded y) 2 (judgedNumber L y o a false) → r ≡ recordNumber L xs x
+    → (y : Space) → y ≡ x → (r : ℕ) → r ≡ cond (misrecorded y) 2 (entryNumberBy L y o a false) → r ≡ recordNumber L xs x
 unfolding recordNumber entryNumber
 record-number-is L xs x o a around found few y same r e =
+    let number : entryNumberBy L x o a false ≡ entryNumber L xs x =
+    entry-is L xs x o a false (found ∙ home-encloses xs x a around) around (sym (lt-leb 200 (length xs) few)) in
     e
-    ∙ ap (λ (z : Space). cond (misrecorded z) 2 (judgedNumber L z o a false)) same
-    ∙ ap (λ (n : ℕ). cond (misrecorded x) 2 n) (judged-is L xs x o a false around found (sym (lt-leb 200 (length xs) few)) (judgedNumber L x o a false) refl)
+    ∙ ap (λ (z : Space). cond (misrecorded z) 2 (entryNumberBy L z o a false)) same
+    ∙ ap (λ (n : ℕ). cond (misrecorded x) 2 n) number
     ∙ by-test (misrecorded x) (λ t. rw t) (λ f. rw f)

@@ -4,9 +4,6 @@ use borrow.Author.Needs.{needs}
 use Rattle.survey.proofs.enter.Statement.{statement}
 use Rattle.survey.proofs.enter.Tie as tie
 
-entry-requires : tie.Need-entry-requires
-entry-requires c κs = search needs
-
 word-requires : tie.Need-word-requires
 word-requires c κs = search needs
 
@@ -28,17 +25,17 @@ measures-requires-2 c κs = search needs
 array-share-prefix-heights : tie.Need-array-share-prefix-heights
 array-share-prefix-heights c = search needs
 
-slice-aggregate-enter : tie.Need-slice-aggregate-enter
-slice-aggregate-enter c = laid-front _ _ (c .before .before .before .before .before .before .measures .ensures)
+slice-aggregate-enter-from : tie.Need-slice-aggregate-enter-from
+slice-aggregate-enter-from c = laid-front _ _ (c .before .before .before .before .before .before .measures .ensures)
 
 array-share-prefix-breadths : tie.Need-array-share-prefix-breadths
 array-share-prefix-breadths c = search needs
 
-slice-aggregate-enter-2 : tie.Need-slice-aggregate-enter-2
-slice-aggregate-enter-2 c = laid-front _ _ (c .before .before .before .measures2 .ensures)
+slice-aggregate-enter-from-2 : tie.Need-slice-aggregate-enter-from-2
+slice-aggregate-enter-from-2 c = laid-front _ _ (c .before .before .before .measures2 .ensures)
 
-enter-requires : tie.Need-enter-requires
-enter-requires c κs = search needs
+enter-from-requires : tie.Need-enter-from-requires
+enter-from-requires c κs = search needs
 
 returns : tie.Need-returns
 returns c = search needs
@@ -47,7 +44,6 @@ pub enter-spec : {M : Type 1} → statement M
 enter-spec =
     tie.close
     (tie.spec
-    entry-requires
     word-requires
     slice-aggregate-measures
     measures-requires
@@ -55,8 +51,8 @@ enter-spec =
     slice-aggregate-measures-2
     measures-requires-2
     array-share-prefix-heights
-    slice-aggregate-enter
+    slice-aggregate-enter-from
     array-share-prefix-breadths
-    slice-aggregate-enter-2
-    enter-requires
+    slice-aggregate-enter-from-2
+    enter-from-requires
     returns)

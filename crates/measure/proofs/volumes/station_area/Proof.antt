@@ -1,7 +1,8 @@
 -- `volumes::station_area` meets its contract: the product is that of the definition, and has its bound.
-use Prim.Native.Nat.{_*_}
+use Prim.Native.Nat.{_*_, _≤_}
 use mathlib.Core.Path.{_≡_, ap, ap₂, _∙_}
 use Rattle.measure.specs.Volumes.{stationArea}
+use Rattle.measure.specs.Handed.{mostArea}
 use Rattle.measure.proofs.laws.Parts.{least, most}
 use Rattle.measure.proofs.laws.Volumes.{station-le}
 use borrow.Author.Needs.{needs}
@@ -28,8 +29,14 @@ product : (c : tie.After-wide) → (let s = c .before .before .before .before in
 unfolding stationArea
 product c = ap₂ _*_ (c .before .weighted-sum .ensures) (c .wide .ensures .0 ∙ ap (λ d. d .0) (c .before .before .third-of-depth .ensures))
 
+area-le : (c : tie.After-wide) → c .before .weighted-sum .result * c .wide .result ≤ mostArea
+area-le c = omega (arith, product c, station-le (c .before .before .before .before .pre))
+
 mul-result : tie.Need-mul-result
-mul-result c = omega (arith, product c, station-le (c .before .before .before .before .pre))
+mul-result c = omega (arith, area-le c)
+
+cast-result : tie.Need-cast-result
+cast-result c = omega (arith, area-le c)
 
 returns : tie.Need-returns
 returns c = product c
@@ -37,4 +44,4 @@ returns c = product c
 pub station-area-spec : {M : Type 1} → statement M
 station-area-spec =
     tie.close
-    (tie.spec third-of-depth-requires weighted-sum-requires wide-requires mul-result returns)
+    (tie.spec third-of-depth-requires weighted-sum-requires wide-requires mul-result cast-result returns)

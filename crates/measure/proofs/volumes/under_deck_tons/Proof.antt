@@ -1,43 +1,49 @@
--- `volumes::under_deck_tons` meets its contract: the product is that of the definition, and has its bound.
-use Prim.Native.Nat.{ℕ, _*_, _≤_}
-use mathlib.Core.Path.{_≡_, ap, ap₂, _∙_}
-use Rattle.measure.specs.Rounding.{nearest}
-use Rattle.measure.specs.Thirds.{thirdOfLength}
-use Rattle.measure.specs.Multipliers.{weighted}
-use Rattle.measure.specs.Volumes.{areas, tons, underDeckVolume}
-use Rattle.measure.specs.Handed.{mostTons}
-use Rattle.measure.proofs.laws.Parts.{least, most}
-use Rattle.measure.proofs.laws.Volumes.{under-deck-le}
-use native.Mathlib.Omega.{arith}
+-- `volumes::under_deck_tons` meets its contract: the first n + 1 places have the areas of the stations.
+use Prim.Native.Nat.{ℕ, _+_}
+use mathlib.Core.Path.{_≡_, sym, ap, _∙_}
+use mathlib.Core.List.{List}
+use lib.ListN.{take}
+use Rattle.measure.specs.Volumes.{areas, tons, volumeOver, underDeckVolume}
+use Rattle.measure.specs.Handed.{AreasHanded}
+use Rattle.measure.proofs.laws.Volumes.{under-deck-areas}
+use borrow.Author.Needs.{needs}
 use Rattle.measure.proofs.volumes.under_deck_tons.Statement.{statement}
 use Rattle.measure.proofs.volumes.under_deck_tons.Tie as tie
 
-third-of-length-requires : tie.Need-third-of-length-requires
-third-of-length-requires c κs =
-    let p = c .before .before .pre .sections .parts in
-    let lo = least p in
-    (omega arith, most p)
+section-areas-requires : tie.Need-section-areas-requires
+section-areas-requires c κs = search needs
 
-weighted-areas-requires : tie.Need-weighted-areas-requires
-weighted-areas-requires c κs = c .before .before .before .pre .sections
+add-areas : tie.Need-add-areas
+add-areas c = search needs
 
-volume : (c : tie.After-struct-known) → (let s = c .before .before .before .before .before in c .before .weighted-areas .result * c .before .before .third-of-length .result .0 ≡ weighted (s .args .n) (areas (s .args .m) (s .args .depths .now) (s .args .breadths .now)) * thirdOfLength (s .args .length) (s .args .n) .0)
-volume c = ap₂ _*_ (c .before .weighted-areas .ensures) (ap (λ t. t .0) (c .before .before .third-of-length .ensures))
+array-share-prefix-areas : tie.Need-array-share-prefix-areas
+array-share-prefix-areas c = search needs
 
-volume-le : (c : tie.After-struct-known) → c .before .weighted-areas .result * c .before .before .third-of-length .result .0 ≤ mostTons * 10000000
-volume-le c = omega (arith, volume c, under-deck-le (c .before .before .before .before .before .pre))
+found : (c : tie.After-areas) → (let s = c .before .before .before .before in take (s .args .n + 1) (c .before .section-areas .result) ≡ areas (s .args .m) (s .args .depths .now) (s .args .breadths .now))
+found c = ap (λ (k : ℕ). take k (c .before .section-areas .result)) (sym (c .before .before .before .before .pre .stations)) ∙ c .before .section-areas .ensures
 
-mul-volume : tie.Need-mul-volume
-mul-volume c = omega (arith, volume-le c)
+handed : (c : tie.After-areas) → (let s = c .before .before .before .before in AreasHanded (s .args .length) (s .args .n) (take (s .args .n + 1) (c .before .section-areas .result)))
+handed c = rw (found c) (under-deck-areas (c .before .before .before .before .pre))
 
-tons-requires : tie.Need-tons-requires
-tons-requires c κs = (omega arith, volume-le c)
+slice-aggregate-tons-over : tie.Need-slice-aggregate-tons-over
+slice-aggregate-tons-over c = sym (handed c .stations)
+
+tons-over-requires : tie.Need-tons-over-requires
+tons-over-requires c κs = handed c
 
 returns : tie.Need-returns
-unfolding tons underDeckVolume
-returns c = c .tons .ensures ∙ ap (λ (v : ℕ). nearest v 10000000) (volume (c .before))
+unfolding underDeckVolume
+returns c =
+    let s = c .before .before .before .before .before in
+    c .tons-over .ensures ∙ ap (λ (l : List ℕ). tons (volumeOver (s .args .length) (s .args .n) l)) (found (c .before))
 
 pub under-deck-tons-spec : {M : Type 1} → statement M
 under-deck-tons-spec =
     tie.close
-    (tie.spec third-of-length-requires weighted-areas-requires mul-volume tons-requires returns)
+    (tie.spec
+    section-areas-requires
+    add-areas
+    array-share-prefix-areas
+    slice-aggregate-tons-over
+    tons-over-requires
+    returns)

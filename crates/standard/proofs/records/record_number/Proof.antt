@@ -10,11 +10,11 @@ misrecorded-requires c κs = search needs
 returns : tie.Need-returns
 returns c = rw (sym (c .before .misrecorded .ensures) ∙ c .if1 .taken)
 
-judged-requires : tie.Need-judged-requires
-judged-requires c κs = search needs
+judged-entry-requires : tie.Need-judged-entry-requires
+judged-entry-requires c κs = search needs
 
 returns-2 : tie.Need-returns-2
-returns-2 c = rw (sym (c .before .before .misrecorded .ensures) ∙ c .before .if1 .left) (c .judged .ensures)
+returns-2 c = rw (sym (c .before .before .misrecorded .ensures) ∙ c .before .if1 .left) (c .judged-entry .ensures)
 
 pub record-number-spec : {M : Type 1} → statement M
-record-number-spec = tie.close (tie.spec misrecorded-requires returns judged-requires returns-2)
+record-number-spec = tie.close (tie.spec misrecorded-requires returns judged-entry-requires returns-2)

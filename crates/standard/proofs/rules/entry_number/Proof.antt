@@ -1,69 +1,26 @@
--- `rules::entry_number` meets its contract: what it finds around the entry is what the definition's tests ask.
-use mathlib.Core.Path.{_≡_, ap, _∙_}
-use native.Mathlib.Nat.{min-eq-left, min-le-right}
-use native.Mathlib.Omega.{arith}
-use lib.Dec.{leb}
-use lib.ListN.{length, take}
-use Rattle.spaces.proofs.laws.Row.{used-is}
+-- `rules::entry_number` meets its contract.
+use mathlib.Core.Path.{_∙_}
+use lib.ListN.{take}
 use Rattle.standard.specs.Handed.{searched}
-use Rattle.standard.proofs.laws.Judged.{judged-is, enclosed-by}
+use Rattle.standard.proofs.laws.Judged.{entry-is}
 use borrow.Author.Needs.{needs}
 use Rattle.standard.proofs.rules.entry_number.Statement.{statement}
 use Rattle.standard.proofs.rules.entry_number.Tie as tie
 
-used-requires : tie.Need-used-requires
-used-requires c κs = search needs
+see-requires : tie.Need-see-requires
+see-requires c κs = search needs
 
-around-space-requires : tie.Need-around-space-requires
-around-space-requires c κs = search needs
-
-sub-lesser : tie.Need-sub-lesser
-sub-lesser c = search needs
-
-lesser-requires : tie.Need-lesser-requires
-lesser-requires c κs = search needs
-
-mul-z : tie.Need-mul-z
-mul-z c = search needs
-
-array-copy-out-z : tie.Need-array-copy-out-z
-array-copy-out-z c = search needs
-
-found-if-requires : tie.Need-found-if-requires
-found-if-requires c κs = search needs
-
-judged-requires : tie.Need-judged-requires
-judged-requires c κs = search needs
+judged-entry-requires : tie.Need-judged-entry-requires
+judged-entry-requires c κs = search needs
 
 returns : tie.Need-returns
 returns c =
-    let found = c .before in
-    let low = found .before .before in
-    let met = low .before in
-    let u = met .before in
-    let a = u .before .args in
-    let xs = take (a .count) (a .t1) in
-    let full : length (a .t1) ≡ 200 = search needs in
-    let all = u .used .ensures ∙ used-is (a .t1) (a .count) full in
-    let home = met .around-space .result .home in
-    judged-is (a .tonnage-length) xs (a .x) (searched (found .found-if .result)) (met .around-space .result) (leb 200 (u .used .result)) (met .around-space .ensures)
-    (found .found-if .ensures
-    ∙ enclosed-by (a .t1) (a .count) home (low .lesser .result) (u .used .result) all
-    (λ below. low .lesser .ensures ∙ min-eq-left (omega (arith, u .used .ensures, min-le-right (a .count) 200))))
-    (ap (leb 200) all)
-    (c .judged .result)
-    (c .judged .ensures)
+    let s = c .before .before in
+    let a = s .before .args in
+    let r = s .see .result in
+    let is = s .see .ensures in
+    c .judged-entry .ensures
+    ∙ entry-is (a .tonnage-length) (take (a .count) (a .spaces)) (a .x) (searched (r .found)) (r .around) (r .full) (is .found-is) (is .around-is) (is .full-is)
 
 pub entry-number-spec : {M : Type 1} → statement M
-entry-number-spec =
-    tie.close
-    (tie.spec
-    used-requires
-    around-space-requires
-    sub-lesser
-    lesser-requires
-    mul-z
-    array-copy-out-z
-    found-if-requires
-    judged-requires
-    returns)
+entry-number-spec = tie.close (tie.spec see-requires judged-entry-requires returns)

@@ -12,7 +12,7 @@ use Rattle.standard.proofs.rules.judged.Tie as tie
 
 -- the number by all tests but the first k
 abbrev from : ℕ → tie.Start → ℕ
-from k s = let a = s .args in firstOf (drop k (judgedTests (a .tonnage-length) (a .x) (searched (a .found)) (a .around) (a .full)))
+from k s = let a = s .args in firstOf (drop k (judgedTests (a .x) (searched (a .found)) (a .around) (a .misplaced) (a .overfull) (a .full)))
 
 id-refused-requires : tie.Need-id-refused-requires
 id-refused-requires c κs = search needs
@@ -34,21 +34,18 @@ returns-2 c = sym (free (c .before .before) ∙ simp (sym (c .before .unhoused .
 housed : (c : tie.Else2) → (let s = c .before .before .before .before in from 0 s ≡ from 2 s)
 housed c = free (c .before .before) ∙ simp (sym (c .before .unhoused .ensures) ∙ c .if2 .left)
 
-misplaced-requires : tie.Need-misplaced-requires
-misplaced-requires c κs = search needs
-
 returns-3 : tie.Need-returns-3
 unfolding judgedNumber
-returns-3 c = sym (housed (c .before .before) ∙ simp (sym (c .before .misplaced .ensures) ∙ c .if3 .taken))
+returns-3 c = sym (housed (c .before) ∙ simp (c .if3 .taken))
 
-placed : (c : tie.Else3) → (let s = c .before .before .before .before .before .before in from 0 s ≡ from 3 s)
-placed c = housed (c .before .before) ∙ simp (sym (c .before .misplaced .ensures) ∙ c .if3 .left)
+placed : (c : tie.Else3) → (let s = c .before .before .before .before .before in from 0 s ≡ from 3 s)
+placed c = housed (c .before) ∙ simp (c .if3 .left)
 
 returns-4 : tie.Need-returns-4
 unfolding judgedNumber
 returns-4 c = sym (placed (c .before .before) ∙ simp (le-leb 8 _ (c .if4 .taken)))
 
-shallow : (c : tie.Else4) → (let s = c .before .before .before .before .before .before .before .before in from 0 s ≡ from 4 s)
+shallow : (c : tie.Else4) → (let s = c .before .before .before .before .before .before .before in from 0 s ≡ from 4 s)
 shallow c = placed (c .before .before) ∙ simp (lt-leb 8 _ (c .if4 .left))
 
 off-twice-requires : tie.Need-off-twice-requires
@@ -58,18 +55,15 @@ returns-5 : tie.Need-returns-5
 unfolding judgedNumber
 returns-5 c = sym (shallow (c .before .before) ∙ simp (sym (c .before .off-twice .ensures) ∙ c .if5 .taken))
 
-once : (c : tie.Else5) → (let s = c .before .before .before .before .before .before .before .before .before .before in from 0 s ≡ from 5 s)
+once : (c : tie.Else5) → (let s = c .before .before .before .before .before .before .before .before .before in from 0 s ≡ from 5 s)
 once c = shallow (c .before .before) ∙ simp (sym (c .before .off-twice .ensures) ∙ c .if5 .left)
-
-overfull-requires : tie.Need-overfull-requires
-overfull-requires c κs = search needs
 
 returns-6 : tie.Need-returns-6
 unfolding judgedNumber
-returns-6 c = sym (once (c .before .before) ∙ simp (sym (c .before .overfull .ensures) ∙ c .if6 .taken))
+returns-6 c = sym (once (c .before) ∙ simp (c .if6 .taken))
 
-fits : (c : tie.Else6) → (let s = c .before .before .before .before .before .before .before .before .before .before .before .before in from 0 s ≡ from 6 s)
-fits c = once (c .before .before) ∙ simp (sym (c .before .overfull .ensures) ∙ c .if6 .left)
+fits : (c : tie.Else6) → (let s = c .before .before .before .before .before .before .before .before .before .before in from 0 s ≡ from 6 s)
+fits c = once (c .before) ∙ simp (c .if6 .left)
 
 returns-7 : tie.Need-returns-7
 unfolding judgedNumber
@@ -87,12 +81,10 @@ judged-spec =
     returns
     unhoused-requires
     returns-2
-    misplaced-requires
     returns-3
     returns-4
     off-twice-requires
     returns-5
-    overfull-requires
     returns-6
     returns-7
     returns-8)

@@ -1,12 +1,10 @@
 -- `Sheet::mark` meets its contract: the tests of 1, 2, 5, 6 and 8, and the mark made and noted.
-use mathlib.Core.Path.{_≡_, sym, ap, ap₂, _∙_}
+use mathlib.Core.Path.{_≡_, sym, ap, _∙_}
 use Prim.Native.Nat.{ℕ}
 use Rattle.measure.proofs.laws.Tests.{holds, fails}
-use borrow.Author.Tests.{not-false, lt-ltb, le-ltb}
+use borrow.Author.Tests.{not-false}
 use Rattle.sheet.specs.Sheet.{standing, usable}
-use Rattle.sheet.specs.Changes.{made, noted}
 use Rattle.sheet.specs.declared.changes.Change.{Change}
-use Rattle.sheet.specs.declared.sheet.Sheet.{Sheet}
 use mathlib.Core.List.{_∷_}
 use lib.Dec.{ltb}
 use Rattle.standard.specs.Rules.{markTests, markNumber, markRuling}
@@ -15,7 +13,7 @@ use Rattle.measure.specs.Refusals.{firstOf}
 use mathlib.Core.Bool.{not}
 use Rattle.sheet.specs.Calls.{answered, changed, marking, marked}
 use Rattle.sheet.specs.declared.changes.Change.the-variants.{Marked}
-use Rattle.sheet.proofs.laws.Calls.{applies, passes, not-open, is-open, refused, fitted-open-places, places, open-places}
+use Rattle.sheet.proofs.laws.Calls.{standing-within, refused, answered-1, answered-2, accepted, fitted-open-places, places, open-places}
 use borrow.Author.Needs.{needs}
 use Rattle.sheet.proofs.sheet.Sheet.mark.Statement.{statement}
 use Rattle.sheet.proofs.sheet.Sheet.mark.Tie as tie
@@ -26,23 +24,20 @@ usable-requires c κs = search needs
 returns : tie.Need-returns
 unfolding marked
 returns c =
-    let s = c .before .before in
-    let sh = s .args .self in
-    let st = s .args .standing in
-    let tests = markTests (standing sh) (s .args .id) st in
-    let next = changed (marking sh (s .args .id) st) sh in
-    ap (λ (k : ℕ). answered k sh next) (sym (not-open sh ((ltb 3 st, 2) ∷ tests) (fails (c .before .usable .ensures .usable-is) (c .if1 .taken))))
+    let a = c .before .before .args in
+    let sh = a .self in
+    answered-1 sh (changed (marking sh (a .id) (a .standing)) sh) ((ltb 3 (a .standing), 2) ∷ markTests (standing sh) (a .id) (a .standing))
+    (fails (c .before .usable .ensures .usable-is) (c .if1 .taken))
 
 returns-2 : tie.Need-returns-2
 unfolding marked
 returns-2 c =
-    let s = c .before .before .before in
-    let sh = s .args .self in
-    let st = s .args .standing in
-    let tests = markTests (standing sh) (s .args .id) st in
-    let next = changed (marking sh (s .args .id) st) sh in
-    let on = is-open sh ((ltb 3 st, 2) ∷ tests) (holds (c .before .before .usable .ensures .usable-is) (c .before .if1 .left)) in
-    ap (λ (k : ℕ). answered k sh next) (sym (on ∙ applies (ltb 3 st) 2 tests (lt-ltb 3 st (c .if2 .taken))))
+    let u = c .before .before in
+    let a = u .before .args in
+    let sh = a .self in
+    answered-2 sh (changed (marking sh (a .id) (a .standing)) sh) (a .standing) (markTests (standing sh) (a .id) (a .standing))
+    (holds (u .usable .ensures .usable-is) (c .before .if1 .left))
+    (c .if2 .taken)
 
 mark-ruling-requires : tie.Need-mark-ruling-requires
 mark-ruling-requires c κs = search needs
@@ -66,43 +61,46 @@ ruled c =
     let s = u .before .before in
     let sh = s .args .self in
     let st = s .args .standing in
-    let tests = markTests (standing sh) (s .args .id) st in
-    is-open sh ((ltb 3 st, 2) ∷ tests) (holds (u .before .usable .ensures .usable-is) (u .if1 .left))
-    ∙ passes (ltb 3 st) 2 tests (le-ltb 3 st (t .if2 .left))
-    ∙ sym (number-is c)
+    let on = holds (u .before .usable .ensures .usable-is) (u .if1 .left) in
+    standing-within sh st (markTests (standing sh) (s .args .id) st) on (t .if2 .left) ∙ sym (number-is c)
+
+-- what the ruling says
+judged : (n : tie.After-mark-ruling) → (let s = n .before .before .before .before .before in let sh = s .args .self in answered (n .mark-ruling .result .number) sh (changed (marking sh (s .args .id) (s .args .standing)) sh) ≡ marked sh (s .args .id) (s .args .standing))
+unfolding marked
+judged n =
+    let s = n .before .before .before .before .before in
+    let sh = s .args .self in
+    ap (λ (k : ℕ). answered k sh (changed (marking sh (s .args .id) (s .args .standing)) sh)) (sym (ruled n))
 
 returns-3 : tie.Need-returns-3
-unfolding marked
 returns-3 c =
     let n = c .before .before in
     let s = n .before .before .before .before .before in
     let sh = s .args .self in
-    let next = changed (marking sh (s .args .id) (s .args .standing)) sh in
-    refused (n .mark-ruling .result .number) sh next (c .if3 .taken)
-    ∙ ap (λ (k : ℕ). answered k sh next) (sym (ruled n))
+    refused (n .mark-ruling .result .number) sh (changed (marking sh (s .args .id) (s .args .standing)) sh) (c .if3 .taken) ∙ judged n
 
 made-requires : tie.Need-made-requires
 made-requires c κs =
-    let u = c .before .before .before .before .before .before in
-    places (u .before .usable .ensures) (not-false _ (u .if1 .left))
+    let one = c .before .before .before .before .before in
+    places (one .before .usable .ensures) (not-false _ (one .if1 .left))
 
 noted-requires : tie.Need-noted-requires
 noted-requires c κs =
-    let u = c .before .before .before .before .before .before .before in
-    rw (c .made .ensures) (fitted-open-places _ _ (open-places (u .before .usable .ensures) (not-false _ (u .if1 .left))))
+    let one = c .before .before .before .before .before .before in
+    rw (c .made .ensures) (fitted-open-places _ _ (open-places (one .before .usable .ensures) (not-false _ (one .if1 .left))))
 
 returns-4 : tie.Need-returns-4
-unfolding marked
 returns-4 c =
-    let none = c .before .before .before .if3 .left in
-    let n = c .before .before .before .before .before in
+    let n = c .before .before .before .before in
     let s = n .before .before .before .before .before in
     let sh = s .args .self in
-    let st = s .args .standing in
-    let next = changed (marking sh (s .args .id) st) sh in
-    let ch = change-is n in
-    let after = c .noted .ensures ∙ ap₂ noted ch (c .before .made .ensures ∙ ap (λ (x : Change). made x sh) ch) in
-    ap (λ (x : Sheet). record { number = 0; sheet = x }) after ∙ ap (λ (k : ℕ). answered k sh next) (sym (ruled n ∙ none))
+    let r = n .mark-ruling .result in
+    accepted (r .number) sh (Marked (r .place) (r .space .standing) (s .args .standing)) (c .before .made .result) (c .noted .result)
+    (c .before .before .if3 .left)
+    (c .before .made .ensures)
+    (c .noted .ensures)
+    ∙ ap (λ (x : Change). answered (r .number) sh (changed x sh)) (change-is n)
+    ∙ judged n
 
 pub mark-spec : {M : Type 1} → statement M
 mark-spec =

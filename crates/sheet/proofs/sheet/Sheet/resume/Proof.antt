@@ -1,7 +1,7 @@
 -- `Sheet::resume` meets its contract.
 use mathlib.Core.Path.{sym, ap, ap₂, _∙_}
 use mathlib.Core.Bool.{Bool, cond}
-use mathlib.Core.List.{[]}
+use mathlib.Core.List.{List, []}
 use Prim.Native.Nat.{ℕ}
 use native.Mathlib.Nat.{min-le-right}
 use borrow.Author.Tests.{eq-eqb, ne-eqb}
@@ -14,6 +14,8 @@ use Rattle.sheet.specs.Changes.{withStanding}
 use Rattle.standard.specs.Records.{firstRefused}
 use Rattle.sheet.specs.Resume.{sheetOf, refused, resumed}
 use Rattle.standard.specs.declared.records.RefusedRecord.{RefusedRecord}
+use Rattle.spaces.specs.Space.{allRecorded}
+use Rattle.spaces.specs.declared.space.Space.{Space}
 use Rattle.sheet.specs.declared.sheet.Sheet.{Sheet}
 use borrow.Author.Needs.{needs}
 use native.Mathlib.Omega.{arith}
@@ -75,7 +77,7 @@ returns-3 c =
     let tk = ap (λ (k : ℕ). take k (s .args .records)) (c .before .before .before .before .before .used .ensures) ∙ take-used (s .args .records) (s .args .count) (search needs) in
     let is = c .before .before .before .before .first-refused .ensures ∙ ap (firstRefused L []) tk in
     let n = ap (λ (x : RefusedRecord). x .number) is in
-    ap (λ (t : Sheet). record { number = 0; position = 0; sheet = t }) (c .with-records .ensures ∙ ap₂ withStanding tk (c .before .blank3 .ensures))
+    ap (λ (t : Sheet). record { number = 0; position = 0; sheet = t }) (c .with-records .ensures ∙ ap₂ (λ (ys : List Space) (t : Sheet). withStanding (allRecorded ys) t) tk (c .before .blank3 .ensures))
     ∙ sym
     (ap (λ (t : Bool). cond t (cond (eqb (r .number) 0) (sheetOf L xs) (refused (r .number) (r .position))) (refused 2 0)) (holds (c .before .before .before .before .before .before .before .tonnage-length-fits .ensures) (c .before .before .before .before .before .before .if1 .left))
     ∙ ap (λ (t : Bool). cond t (sheetOf L xs) (refused (r .number) (r .position))) (eq-eqb (r .number) 0 (sym n ∙ c .before .before .if2 .left)))

@@ -1,0 +1,103 @@
+//! The tank of `../tank.txt` in Rust: an under-deck part with curved sides, and a tank in it that follows them. A line for each call: its
+//! name and its answer.
+#[allow(dead_code)]
+#[path = "../../rust/fummidrake.rs"]
+mod fummidrake;
+
+use fummidrake::{lay_out, read, section_station, Changed, Entry, Sheet, Tank};
+
+const LENGTH: u32 = 3600;
+const TANK: Tank = Tank { id: 2, within: 1, standing: 2, length: 1200, fore: 800 };
+
+/// The breadths of the under-deck part at each station, from above.
+const STATIONS: [[u32; 5]; 7] = [
+    [400, 300, 200, 100, 0],
+    [1400, 1200, 1000, 600, 200],
+    [1800, 1600, 1400, 1000, 400],
+    [2000, 2000, 1800, 1400, 600],
+    [2000, 1800, 1600, 1200, 400],
+    [1600, 1400, 1200, 800, 200],
+    [1000, 800, 600, 300, 0],
+];
+
+/// Those of the tank at each section: at 8 ft inside station 2, at 14 ft inside 3 and inside 4, at 20 ft inside 4.
+const SECTIONS: [[u32; 5]; 4] = [
+    [1000, 800, 600, 400, 200],
+    [1400, 1200, 1000, 700, 400],
+    [1800, 1600, 1400, 1000, 600],
+    [1800, 1600, 1400, 1000, 600],
+];
+
+/// Prints the answer to a change, and hands on the sheet after it.
+fn answered(call: &str, answer: Changed) -> Sheet {
+    println!("{call} {}", answer.number);
+    answer.sheet
+}
+
+/// Prints where a tank is measured: the number, its parts, and for each section the under-deck station.
+fn print_zones(length: u32, fore: u32) {
+    let laid_out = lay_out(LENGTH, LENGTH, length, fore);
+    let station = |section| section_station(LENGTH, LENGTH, length, fore, section).to_string();
+    let stations: Vec<String> = (0..laid_out.sections).map(station).collect();
+    let list = if stations.is_empty() { "-".to_string() } else { stations.join(",") };
+    println!("zones {} {} {list}", laid_out.number, laid_out.parts);
+}
+
+/// Prints what stands: open or not, the tonnage length, how many, and each space.
+fn print_spaces(sheet: &Sheet) {
+    print!("spaces 0 {} {} {}", sheet.is_open() as u8, sheet.tonnage_length(), sheet.standing_count());
+    for x in sheet.spaces() {
+        print!(" {}:{}:{}:{}:{}:{}:{}", x.id, x.within, x.kind, x.standing, x.tonnage, x.length, x.m);
+    }
+    println!();
+}
+
+fn print_report(sheet: Sheet) -> Sheet {
+    let answer = sheet.report(0);
+    println!("report {} {} {}", answer.number, answer.gross, answer.net);
+    answer.sheet
+}
+
+fn under_deck_entered(sheet: Sheet) -> Sheet {
+    let under_deck = Entry { id: 1, kind: 1, length: LENGTH, ..Entry::default() };
+    answered("enter", sheet.enter(under_deck, &[1200; 7], STATIONS.as_flattened()))
+}
+
+fn tank_entered(sheet: Sheet, tank: Tank, breadths: &[u32]) -> Sheet {
+    answered("tank", sheet.enter_tank(tank, &[600; 4], breadths))
+}
+
+/// The tank is measured, entered and reported; another with a breadth missing, and one too long, are refused.
+fn measured(mut sheet: Sheet) -> Sheet {
+    sheet = under_deck_entered(sheet);
+    print_zones(TANK.length, TANK.fore);
+    let breadths = SECTIONS.as_flattened();
+    sheet = tank_entered(sheet, TANK, breadths);
+    sheet = tank_entered(sheet, Tank { id: 3, ..TANK }, &breadths[1..]);
+    print_zones(3000, TANK.fore);
+    print_spaces(&sheet);
+    print_report(sheet)
+}
+
+/// On a sheet that came from a file the tank is struck out and entered again, which takes the under-deck part entered anew.
+fn measured_again(mut sheet: Sheet) -> Sheet {
+    print_spaces(&sheet);
+    sheet = answered("withdraw", sheet.withdraw(2));
+    sheet = tank_entered(sheet, TANK, SECTIONS.as_flattened());
+    sheet = answered("withdraw", sheet.withdraw(1));
+    sheet = under_deck_entered(sheet);
+    sheet = tank_entered(sheet, TANK, SECTIONS.as_flattened());
+    print_spaces(&sheet);
+    print_report(sheet)
+}
+
+fn main() {
+    let sheet = measured(answered("open", Sheet::open(LENGTH)));
+    let mut file = [0; 60];
+    let written = sheet.write(0, &mut file, 0);
+    let hex: String = file.iter().map(|byte| format!("{byte:02x}")).collect();
+    println!("write {} {} {hex}", written.number, written.bytes);
+    let reading = read(&file);
+    println!("read {} {} {} {}", reading.number, reading.position, reading.justified, reading.start);
+    let _ = measured_again(reading.sheet);
+}
