@@ -11,7 +11,8 @@ test: kit
 	@python3 tools/promises.py
 	@python3 tools/mapped.py
 	@python3 tools/header.py
-	@$(MAKE) --no-print-directory -j2 proofs reference-tests
+	@$(MAKE) --no-print-directory reference-tests
+	@$(MAKE) --no-print-directory proofs
 	@python3 tools/edits.py
 	@python3 tools/lists.py > target/lists.log || { cat target/lists.log; exit 1; }
 	@python3 tools/examples.py
@@ -21,10 +22,11 @@ test: kit
 	@tools/x86 run target/stack
 	@! tools/x86 rust || { $(MAKE) --no-print-directory target/bench && target/bench --check; }
 
-# Every proof and edit from nothing, and beside it the second program's own tests.
+# Every proof and edit from nothing. `rt` takes both cores, so nothing else runs beside it: what it says a crate takes is the crate's own.
 proofs:
 	@rt ci
 
+# The second program's own tests, the picture's, and that what is stored is what the second program prints today.
 reference-tests:
 	@python3 -m unittest discover -q -s reference -t .
 	@python3 -m unittest discover -q -s picture -t .

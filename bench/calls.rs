@@ -15,9 +15,9 @@ pub fn open(length: u32) -> Box<dyn Call> {
 }
 
 pub fn enter(entry: Entry, heights: Vec<u32>, breadths: Vec<u32>) -> Box<dyn Call> {
-    let Entry { id, within, kind, standing, length } = entry;
-    let name = format!("enter {id} {within} {kind} {standing} {length} {heights:?} {breadths:?}");
-    let same = plain::Entry { id, within, kind, standing, length };
+    let Entry { id, within, kind, standing, fore_end, aft_end, length } = entry;
+    let name = format!("enter {id} {within} {kind} {standing} {length} {heights:?} {breadths:?} {fore_end} {aft_end}");
+    let same = plain::Entry { id, within, kind, standing, fore_end, aft_end, length };
     let offsets = Rc::new((heights, breadths));
     let [first, second, third] = [(); 3].map(|()| offsets.clone());
     on_each(

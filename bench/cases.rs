@@ -17,6 +17,8 @@ const HATCHWAY: u8 = 4;
 const ROOM: u8 = 5;
 const PLAIN: u8 = 0;
 const EXEMPT: u8 = 1;
+const UPRIGHT: u8 = 2;
+const POINTED: u8 = 3;
 
 /// Places for spaces on a sheet.
 pub const PLACES: u16 = 200;
@@ -50,16 +52,31 @@ fn space(id: u16) -> Box<dyn Call> {
     match id {
         1 | 3 => divided(id, SUPERSTRUCTURE, LENGTH, 300, 933, 1_000),
         2 => divided(id, UNDER_DECK, LENGTH, LENGTH, 1_700, 500),
-        4..=9 => undivided(Entry { id, within: id - 1, kind: ROOM, standing: PLAIN, length: 500 }, 500, 1_000),
-        _ => undivided(Entry { id, within: 9, kind: ROOM, standing: EXEMPT, length: 100 }, 100, 100),
+        4..=9 => undivided(room(id, id - 1, PLAIN, 500), 500, 1_000),
+        _ => undivided(room(id, 9, EXEMPT, 100), 100, 100),
     }
 }
 
-/// Enters a U or an S that is as high and as broad at every station.
+fn room(id: u16, within: u16, standing: u8, length: u32) -> Entry {
+    Entry { id, within, kind: ROOM, standing, length, ..Entry::default() }
+}
+
+/// Enters a U, upright at both ends, or an S, that is as high and as broad at every station.
 fn divided(id: u16, kind: u8, tonnage_length: u32, length: u32, height: u32, breadth: u32) -> Box<dyn Call> {
     let heights = vec![height; stations(kind, tonnage_length, length)];
     let breadths = vec![breadth; heights.len() * breadths_at_station(kind, height)];
-    calls::enter(Entry { id, kind, length, ..Entry::default() }, heights, breadths)
+    let entry = Entry { id, kind, fore_end: UPRIGHT, aft_end: UPRIGHT, length, ..Entry::default() };
+    calls::enter(entry, heights, breadths)
+}
+
+/// Enters the U with both ends pointed: it has no breadth there.
+fn pointed(id: u16) -> Box<dyn Call> {
+    let depths = vec![1_700; stations(UNDER_DECK, LENGTH, LENGTH)];
+    let at_station = breadths_at_station(UNDER_DECK, 1_700);
+    let between = vec![500; (depths.len() - 2) * at_station];
+    let end = vec![0; at_station];
+    let ends = Entry { fore_end: POINTED, aft_end: POINTED, ..Entry::default() };
+    calls::enter(Entry { id, kind: UNDER_DECK, length: LENGTH, ..ends }, depths, [end.clone(), between, end].concat())
 }
 
 /// Enters a tank in the U that is as deep and as broad at every section: 16 parts, the most, and two sections at three of its stations.
@@ -119,10 +136,10 @@ fn enter_last(count: u16) -> Result<Case, String> {
     Case::on(format!("enter the last of {count}, at level 8"), count - 1, space(count))
 }
 
-/// The U, where it was withdrawn.
-fn enter_under_deck() -> Result<Case, String> {
-    let name = format!("enter a U of 16 parts on {} spaces", PLACES - 1);
-    Case::on(name, PLACES, space(2))?.after(&[calls::withdraw(2)])
+/// A U where the one that stood was withdrawn.
+fn enter_under_deck(which: &str, under_deck: Box<dyn Call>) -> Result<Case, String> {
+    let name = format!("enter a {which} of 16 parts on {} spaces", PLACES - 1);
+    Case::on(name, PLACES, under_deck)?.after(&[calls::withdraw(2)])
 }
 
 fn enter_tank() -> Result<Case, String> {
@@ -198,7 +215,8 @@ pub fn cases() -> Result<Vec<Case>, String> {
         enter_hatchway(100),
         enter_hatchway(PLACES - 1),
         enter_last(PLACES),
-        enter_under_deck(),
+        enter_under_deck("U", space(2)),
+        enter_under_deck("pointed U", pointed(2)),
         enter_tank(),
         mark_plain(1),
         mark_plain(PLACES),

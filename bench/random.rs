@@ -7,7 +7,7 @@ use crate::fummidrake::{breadths_at_station, lay_out, stations, Entry, Tank};
 const RUNS: usize = 600;
 const CALLS_A_RUN: usize = 100;
 /// The numbers of refusal, and 0; the greatest is 29.
-const NUMBERS: [usize; 20] = [0, 1, 2, 3, 4, 5, 6, 7, 8, 9, 10, 11, 12, 13, 14, 15, 16, 17, 18, 29];
+const NUMBERS: [usize; 21] = [0, 1, 2, 3, 4, 5, 6, 7, 8, 9, 10, 11, 12, 13, 14, 15, 16, 17, 18, 19, 29];
 const GREATEST: usize = 29;
 
 const UNDER_DECK: u8 = 1;
@@ -118,12 +118,19 @@ impl Survey<'_> {
             within: self.id(),
             kind: self.dice.one_of(&[0, 1, 1, 2, 3, 4, 5, 5, 5, 5, 5, 5, 5, 6]),
             standing: self.dice.one_of(&[0, 0, 0, 0, 0, 1, 1, 2, 2, 3, 4]),
+            fore_end: self.end_of_under_deck(),
+            aft_end: self.end_of_under_deck(),
             length: self.dice.one_of(&[tonnage_length, tonnage_length / 2, 4_000, 2_000, 300, 100, 99, 0, 150_001]),
         };
         let most = self.dice.one_of(&[100, 100, 1_600, 20_000]);
         let mut heights = self.measures(stations(entry.kind, tonnage_length, entry.length), most);
         let at_station = breadths_at_station(entry.kind, heights[heights.len() / 2]);
         let mut breadths = self.measures(heights.len() * at_station, most);
+        if entry.kind == UNDER_DECK {
+            for station in [0, heights.len() - 1] {
+                self.point(&mut heights[station], &mut breadths[station * at_station..][..at_station]);
+            }
+        }
         match self.dice.below(40) {
             0 => heights.push(1),
             1 => breadths.push(30_001),
@@ -133,6 +140,23 @@ impl Survey<'_> {
             _ => {}
         }
         calls::enter(entry, heights, breadths)
+    }
+
+    /// Inner, upright or pointed, and now and then none of these.
+    fn end_of_under_deck(&mut self) -> u8 {
+        match self.dice.below(20) {
+            0 => self.dice.one_of(&[0, 4, 255]),
+            _ => self.dice.one_of(&[1, 2, 3]),
+        }
+    }
+
+    /// Half the time a section without area, or nearly so: a depth's third interval is 0 up to a depth of 5 in 4 parts, of 8 in 6.
+    fn point(&mut self, depth: &mut u32, breadths: &mut [u32]) {
+        match self.dice.below(4) {
+            0 => *depth = self.dice.below(11) as u32,
+            1 => breadths.fill(0),
+            _ => {}
+        }
     }
 
     /// A tank, mostly in a U that stands, and with the sections that the rules ask.

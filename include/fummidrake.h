@@ -12,13 +12,14 @@
  * Lengths, heights, depths and breadths are in hundredths of a foot, tonnages in hundredths of a ton.
  * Kinds: 1 U under-deck part, 2 B between-deck level, 3 S superstructure, 4 H hatchway, 5 R room.
  * Standings: 0 plain, 1 exempt, 2 exempt as water ballast, 3 deducted.
+ * Ends of a U: 1 inner (at a step), 2 upright, 3 pointed.
  *
  * An answer's number is 0 where the call was accepted, else the lowest that applies (in reading: 16, 17, 13, 14, 18 in that order):
  *
  * | No. | Refused when |
  * |---|---|
  * | 1 | sheet not open |
- * | 2 | a kind, measure, standing or justified mark outside its range; a tank's fore end over 150,000 |
+ * | 2 | a kind, measure, standing, justified mark or end of a U outside its range; a tank's fore end over 150,000 |
  * | 3 | stations, depths, heights or breadths not the number the rules ask; of a tank, a section or breadth missing or extra |
  * | 4 | new id outside its range or already standing |
  * | 5 | id to withdraw or mark, or enclosing id, isn't standing |
@@ -35,6 +36,7 @@
  * | 16 | file shorter than 28 bytes or than its distance; count over 200; distance, zero byte, mark or tonnage length wrong |
  * | 17 | a record that no entry could have made, with its position from 1 |
  * | 18 | gross or net isn't what the records give |
+ * | 19 | a pointed end of a U has area |
  * | 29 | a tank in a U that has no m: one read from a file; enter the U anew |
  */
 #ifndef FUMMIDRAKE_H
@@ -94,12 +96,14 @@ typedef struct {
     uint32_t length;
 } fummidrake_space;
 
-/* What is entered; `within` is looked at only of a room. */
+/* What is entered; `within` is looked at only of a room, `fore_end` and `aft_end` only of a U. */
 typedef struct {
     uint16_t id;
     uint16_t within;
     uint8_t kind;
     uint8_t standing;
+    uint8_t fore_end;
+    uint8_t aft_end;
     uint32_t length;
 } fummidrake_entry;
 
@@ -203,6 +207,8 @@ FUMMIDRAKE_FIELD(fummidrake_entry, id, 0);
 FUMMIDRAKE_FIELD(fummidrake_entry, within, 2);
 FUMMIDRAKE_FIELD(fummidrake_entry, kind, 4);
 FUMMIDRAKE_FIELD(fummidrake_entry, standing, 5);
+FUMMIDRAKE_FIELD(fummidrake_entry, fore_end, 6);
+FUMMIDRAKE_FIELD(fummidrake_entry, aft_end, 7);
 FUMMIDRAKE_FIELD(fummidrake_entry, length, 8);
 FUMMIDRAKE_SIZE(fummidrake_entry, 12);
 FUMMIDRAKE_FIELD(fummidrake_tank, id, 0);
@@ -264,7 +270,8 @@ FUMMIDRAKE_MUST_USE
 fummidrake_changed fummidrake_open(uint32_t length);
 
 /* Enters a space from its offsets: for a U the depths at the stations, and the breadths station by station from the bow, at each
- * from above; for a B or S one height and one breadth a station; for an H or R one of each. Refused with 1 to 10. */
+ * from above; for a B or S one height and one breadth a station; for an H or R one of each. A pointed end of a U has no area: its
+ * depth or all its breadths are 0, or its third interval of depth rounds to 0. Refused with 1 to 10, 19. */
 FUMMIDRAKE_MUST_USE
 fummidrake_changed fummidrake_enter(fummidrake_sheet sheet, fummidrake_entry entry, const uint32_t *heights, size_t heights_count,
                                     const uint32_t *breadths, size_t breadths_count);

@@ -3,7 +3,7 @@
 Lengths, breadths, depths and heights are handed in as hundredths of a foot and tonnages as hundredths of a ton.
 Volumes are worked out in cubic feet, as exact fractions, and rounded once at the end.
 Paragraph numbers are those of 46 CFR part 69; where one reads "the paper", the rule stands only there. "The request" is
-T-01, tanks that follow the hull.
+T-01, tanks that follow the hull, or T-02, pointed bows, where it speaks of the ends of a U.
 """
 
 from fractions import Fraction
@@ -173,11 +173,27 @@ def over_length(length: int, values: Sequence[Fraction]) -> Fraction:
     return multiplied_sum(values) * third
 
 
-def volume_of_under_deck(length: int, depths: Sequence[int], breadths: Sequence[int]) -> Fraction:
-    """The cubic feet of a U: 'each station has m+1 breadths, from above', and every end section counts as entered."""
-    row = parts_of_depth(middle_depth(depths)) + 1
+def areas_of_sections(m: int, depths: Sequence[int], breadths: Sequence[int]) -> list[Fraction]:
+    """'Each station has m+1 breadths, from above': the area at each; of a tank, that of each of its sections."""
+    row = m + 1
     rows = [breadths[first:first + row] for first in range(0, len(breadths), row)]
-    return over_length(length, [area_of_station(depth, of_station) for depth, of_station in zip(depths, rows)])
+    return [area_of_station(depth, of_section) for depth, of_section in zip(depths, rows)]
+
+
+def areas_of_under_deck(depths: Sequence[int], breadths: Sequence[int]) -> list[Fraction]:
+    """The area at each station of a U; 'every end section counts as entered'."""
+    return areas_of_sections(parts_of_depth(middle_depth(depths)), depths, breadths)
+
+
+def areas_of_ends(depths: Sequence[int], breadths: Sequence[int]) -> tuple[Fraction, Fraction]:
+    """What the transverse sections at the fore and the aft end of a U yield, 69.109(k)(1); the first is at the bow."""
+    fore, *_, aft = areas_of_under_deck(depths, breadths)
+    return fore, aft
+
+
+def volume_of_under_deck(length: int, depths: Sequence[int], breadths: Sequence[int]) -> Fraction:
+    """The cubic feet of a U."""
+    return over_length(length, areas_of_under_deck(depths, breadths))
 
 
 def volume_of_level(length: int, heights: Sequence[int], breadths: Sequence[int]) -> Fraction:
@@ -236,13 +252,6 @@ def sections_of_tank(tonnage_length: int, under_deck_length: int, length: int, f
     return sum(len(zones) for zones in zones_of_stations(tonnage_length, under_deck_length, length, fore))
 
 
-def areas_of_sections(m: int, depths: Sequence[int], breadths: Sequence[int]) -> list[Fraction]:
-    """'As depth and breadths in a station's ranges, with that U's m': m+1 breadths a section, section by section."""
-    row = m + 1
-    rows = [breadths[first:first + row] for first in range(0, len(breadths), row)]
-    return [area_of_station(depth, of_section) for depth, of_section in zip(depths, rows)]
-
-
 def areas_of_tank(zones: Sequence[Sequence[int]], of_sections: Sequence[Fraction]) -> list[Fraction]:
     """The area at each station: of 'both sections ... the larger area is taken'."""
     left = iter(of_sections)
@@ -253,7 +262,7 @@ def volume_of_tank(
     tonnage_length: int, under_deck_length: int, m: int, length: int, fore: int, depths: Sequence[int],
     breadths: Sequence[int],
 ) -> Fraction:
-    """The cubic feet of a tank that has the sections asked for: the multipliers over its areas, as of a U."""
+    """The cubic feet of a tank that has the sections asked for, 'with that U's m': as of a U, over its areas."""
     zones = zones_of_stations(tonnage_length, under_deck_length, length, fore)
     return over_length(length, areas_of_tank(zones, areas_of_sections(m, depths, breadths)))
 

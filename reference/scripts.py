@@ -16,16 +16,18 @@ from typing import Callable, Iterator, Sequence
 from reference import command_line, dayfile, figures, files, measure as m, sheet as s
 from reference.figures import one_of, some, word
 from reference.measure import B, H, R, S, U
-from reference.sheet import BALLAST, DEDUCTED, EXEMPT, PLAIN, Sheet
+from reference.sheet import BALLAST, DEDUCTED, EXEMPT, INNER, NOT_SAID, PLAIN, POINTED, UPRIGHT, Sheet
 from reference.survey import GREATEST_SIZE, MOST_DIGITS, MOST_NUMBERS, Session, in_hex
 
 Lines = Iterator[str]
 Section = Callable[[Random, Session], Lines]
+Ends = tuple[int, ...]  # what an entry says of its fore and its aft end; none where they are left out
 
 LOOK = ("counts", "spaces")
 LOOK_AND_REPORT = ("counts", "spaces", "report 0", "report 1")
 BEYOND_16 = (65_535, 65_536, 65_537, 2**64 - 1)  # ids above their type, one that would wrap to 1
 BEYOND_8 = (4, 255, 256, 257, 261, 2**16, 2**64 - 1)  # codes above their range or type, some that would wrap into it
+BEYOND_ENDS = (4, 255, 256, 257, 258, 259, 2**16 + 2, 2**64 - 1)  # ends likewise
 BEYOND_32 = (2**32 - 1, 2**32, 2**32 + 600, 2**64 - 1)  # measures likewise
 
 
@@ -37,10 +39,13 @@ def call(name: str, *arguments: int | Sequence[int]) -> str:
 
 
 def enter(
-    id: int, within: int, kind: int, standing: int, length: int, heights: Sequence[int], breadths: Sequence[int]
+    id: int, within: int, kind: int, standing: int, length: int, heights: Sequence[int], breadths: Sequence[int],
+    ends: Ends | None = None,
 ) -> str:
-    """The line of an entry."""
-    return call("enter", id, within, kind, standing, length, heights, breadths)
+    """The line of an entry; where ends aren't given, a U is upright at both, and of another they are left out."""
+    if ends is None:
+        ends = (UPRIGHT, UPRIGHT) if kind == U else ()
+    return call("enter", id, within, kind, standing, length, heights, breadths, *ends)
 
 
 def box_measures(tonnage: int) -> tuple[int, list[int], list[int]]:
@@ -953,6 +958,177 @@ def where_to_measure(rng: Random, session: Session) -> Lines:
     yield "counts"
 
 
+# Sections of ends
+
+NEXT_TO_NO_DEPTH = {4: 5, 6: 8}  # by m, the greatest depth whose third interval rounds to 0: of 5/12 and of 8/18
+EVERY_PAIR_OF_ENDS: tuple[Ends, ...] = tuple(product(s.ENDS, repeat=2))
+Station = tuple[int, list[int]]  # its depth and its breadths
+# Depths and breadths of a U of 600 on a tonnage length of 1200, with m 4: with area at its ends, and without
+WITH_AREA, WITHOUT_AREA = ([99] * 3, [9] * 15), ([0, 99, 0], [9] * 15)
+
+
+def with_station(
+    heights: list[int], breadths: list[int], station: int, depth: int, own: list[int]
+) -> tuple[list[int], list[int]]:
+    """The measures of a U with another depth and other breadths at a station."""
+    first = station * len(own)
+    return figures.changed(heights, station, depth), [*breadths[:first], *own, *breadths[first + len(own):]]
+
+
+def by_stations(id: int, length: int, stations: Sequence[Station], ends: Ends) -> str:
+    """The entry of a U, station by station from the bow, with what is said of its ends."""
+    breadths = [breadth for _, of_station in stations for breadth in of_station]
+    return enter(id, 0, U, PLAIN, length, [depth for depth, _ in stations], breadths, ends)
+
+
+def half(id: int, fore_depth: int, aft_depth: int, ends: Ends) -> str:
+    """The entry of a U of half the tonnage length of 1200, with these depths at its ends; its middle gives 240."""
+    return by_stations(id, 600, [(fore_depth, [500] * 5), (1200, [500] * 5), (aft_depth, [500] * 5)], ends)
+
+
+def pointed_figures(rng: Random, session: Session) -> Lines:
+    """The paper's box, upright at both ends; with pointed ones its tonnage is that of its other sections."""
+    yield "# Ends: the paper's box, upright and pointed"
+    yield "open 4800"
+    section, least, no_depth, no_breadths = (1200, [2000] * 5), (5, [2000] * 5), (0, [2000] * 5), (1200, [0] * 5)
+    for fore, aft in (
+        (section, section), (no_depth, section), (section, no_depth), (least, section), (section, no_breadths),
+        (no_breadths, no_depth), (no_depth, least),
+    ):
+        for ends in ((UPRIGHT, UPRIGHT), (POINTED, UPRIGHT), (UPRIGHT, POINTED), (POINTED, POINTED)):
+            yield from tried(session, by_stations(1, 4800, [fore, *[section] * 5, aft], ends))
+    yield from (by_stations(1, 4800, [no_depth, *[section] * 6], (POINTED, UPRIGHT)), *LOOK_AND_REPORT)
+
+
+def pointed_ends(rng: Random, session: Session) -> Lines:
+    """Pointed ends with no depth, with a third interval that rounds to 0 or just to 1, and with no breadths.
+
+    The U's m, which the depth at its middle station fixes, is that of its ends.
+    """
+    for parts, of_middle in ((4, 1600), (6, 1601)):
+        yield f"# Ends: a pointed one with m {parts}"
+        yield "open 1200"
+        nothing, narrow, broad = ([breadth] * (parts + 1) for breadth in (0, 9, 30_000))
+        middle, other = (of_middle, [90] * (parts + 1)), (of_middle, narrow)
+        for end in (
+            *((depth, narrow) for depth in (0, 1, 5, 6, 8, 9, 20_000)), *((depth, broad) for depth in (0, 5, 20_000)),
+            *((depth, nothing) for depth in (0, 9, 1600, 20_000)),
+        ):
+            yield from tried(session, by_stations(1, 600, [end, middle, other], (POINTED, UPRIGHT)))
+            yield from tried(session, by_stations(1, 600, [other, middle, end], (INNER, POINTED)))
+            yield from tried(session, by_stations(1, 600, [end, middle, end], (POINTED, POINTED)))
+        yield f"# Ends: one breadth of a hundredth at a pointed one with m {parts}"
+        for place, more in product(range(parts + 1), (0, 1)):
+            end = NEXT_TO_NO_DEPTH[parts] + more, figures.changed(nothing, place, 1)
+            yield from tried(session, by_stations(1, 600, [end, middle, other], (POINTED, INNER)))
+            yield from tried(session, by_stations(1, 600, [other, middle, end], (UPRIGHT, POINTED)))
+    yield "# Ends: area at a pointed one alone, beside it alone, and nowhere"
+    for tonnage_length, length, number, depth, row in (
+        (1200, 600, 2, 9, 5), (4800, 2001, 4, 9, 5), (1200, 1200, 6, 1601, 7), (25_001, 25_001, 16, 9, 5)
+    ):
+        yield f"open {tonnage_length}"
+        for places in ((0,), (number,), (1, number - 1), ()):
+            stations = [(depth, [9 if place in places else 0] * row) for place in range(number + 1)]
+            for ends in ((POINTED, UPRIGHT), (INNER, POINTED), (POINTED, POINTED)):
+                yield from tried(session, by_stations(1, length, stations, ends))
+    yield from LOOK
+
+
+def pairs_of_ends(rng: Random, session: Session) -> Lines:
+    """Each end inner, upright and pointed, in all nine pairs, with area at each end and without."""
+    yield "# Ends: inner, upright and pointed, with area and without"
+    yield "open 1200"
+    for fore_depth, aft_depth, ends in product((0, 1200), (0, 1200), EVERY_PAIR_OF_ENDS):
+        yield from tried(session, half(1, fore_depth, aft_depth, ends))
+    yield from LOOK
+
+
+def ends_said(rng: Random, session: Session) -> Lines:
+    """Numbers that are no end's, of a U and of every other kind, where they aren't read; ends left out; words amiss."""
+    yield "# Ends: numbers that are none, of a U"
+    yield "open 1200"
+    for one in (NOT_SAID, *BEYOND_ENDS):
+        for ends in ((one, UPRIGHT), (INNER, one), (one, one), (POINTED, one), (one, POINTED)):
+            yield enter(1, 0, U, PLAIN, 600, *WITH_AREA, ends)
+        yield enter(1, 0, U, PLAIN, 600, *WITHOUT_AREA, (POINTED, one))
+    yield "# Ends: of every other kind they aren't read, nor of one that is none"
+    yield half(1, 0, 1200, (POINTED, INNER))
+    others = (
+        (B, 1200, [500] * 7, [500] * 7), (S, 300, [500] * 3, [500] * 3), (H, 100, [500], [500]), (R, 10, [500], [500])
+    )
+    unread = ((), (0, 0), (1, 2), (3, 3), (4, 3), (255, 256), (259, 0), (2**64 - 1, 2**64 - 1))
+    for (kind, *measures), ends in product(others, unread):
+        yield from tried(session, enter(7, 1, kind, PLAIN, *measures, ends))
+    for kind, ends in product((0, 6, 255, 257, 2**64 - 1), ((), (2, 2), (3, 3))):
+        yield enter(7, 1, kind, PLAIN, 600, *WITH_AREA, ends)
+    yield "# Ends: left out, one word alone, three words, words that are no numbers, and zeros in front"
+    for measures, ends in product((WITH_AREA, WITHOUT_AREA), ((), (UPRIGHT,), (UPRIGHT,) * 3)):
+        yield enter(2, 0, U, PLAIN, 600, *measures, ends)
+    left_out = [enter(7, 1, kind, PLAIN, *measures, ()) for kind, *measures in ((U, 600, *WITHOUT_AREA), *others)]
+    for line, ends in product(left_out, ("3", "3 3 3", "3 x", "- 3", "3 3,3", "3 18446744073709551616", "3 ", "")):
+        yield f"{line} {ends}"
+    for line in left_out:
+        yield from tried(session, f"{line} 002 0000003")
+    yield from LOOK
+
+
+def pointed_refusals(rng: Random, session: Session) -> Lines:
+    """A pointed end with area beside every other number that a U can have, which goes before it; and alone."""
+    yield "# Ends: 19 after all the others"
+    both = (POINTED, POINTED)
+    yield from ("open 99", *(enter(1, 0, U, 0, 600, *measures, both) for measures in (WITH_AREA, WITHOUT_AREA)))
+    yield from ("open 1200", divided(1, U, 1200, 600, 1200, 500), room(21, 1, 10))
+    wrong, beyond = ([99] * 3, [9] * 14), ([99] * 3, [9] * 14 + [30_001])
+    of_ends = ((POINTED, INNER), (UPRIGHT, POINTED), (INNER, UPRIGHT), (POINTED, NOT_SAID), (4, POINTED))
+    for full in (False, True):
+        if full:
+            yield from (room(id, 21) for id in range(1000, 1000 + s.PLACES - len(session.sheet.spaces)))
+        for id, standing, length, measures in product(
+            (500, 21), (PLAIN, EXEMPT, 4), (600, 601), (WITH_AREA, WITHOUT_AREA, wrong, beyond)
+        ):
+            yield from tried(session, enter(id, 0, U, standing, length, *measures, both))
+        for length, measures, ends in product((600, 601), (WITH_AREA, WITHOUT_AREA), of_ends):
+            yield from tried(session, enter(500, 0, U, PLAIN, length, *measures, ends))
+        yield from (enter(0, 0, U, PLAIN, 600, *WITH_AREA, both), "counts", "report 0")
+    yield "# Ends: a place again, 19 alone, and accepted"
+    yield from (withdraw(1000), enter(500, 0, U, PLAIN, 600, *WITH_AREA, both), "counts", "report 0")
+    yield from (enter(500, 0, U, PLAIN, 600, *WITHOUT_AREA, both), "counts", "report 0")
+    yield from (enter(501, 0, U, PLAIN, 600, *WITH_AREA, both), "undo", "counts")
+
+
+def pointed_and_changed(rng: Random, session: Session) -> Lines:
+    """A pointed end refused changes nothing, and what was undone can be made again; accepted, it is a change as any."""
+    refused, accepted = half(2, 1200, 1200, (UPRIGHT, POINTED)), half(2, 0, 0, (POINTED, POINTED))
+    yield "# Ends: a refused one changes nothing"
+    yield from ("open 1200", refused, *LOOK, half(1, 0, 1200, (POINTED, INNER)), hatchway(5, 20), mark(5, PLAIN))
+    yield from ("undo", "undo", *LOOK, refused, *LOOK, "redo", refused, "counts", "redo", "redo", *LOOK)
+    yield from ("undo", refused, "undo", refused, "undo", refused, "undo", *LOOK, *["redo"] * 3, refused, *LOOK)
+    yield "# Ends: an accepted one undone, made again and withdrawn"
+    yield from (accepted, "undo", refused, *LOOK, "redo", *LOOK_AND_REPORT, refused, "undo", "undo", "spaces", "redo")
+    yield from ("redo", *LOOK, withdraw(2), refused, "undo", *LOOK, withdraw(2), refused, accepted)
+    yield from (*LOOK_AND_REPORT, "undo", "undo", *LOOK, room(6, 2, 240, BALLAST), room(7, 2, 1), *LOOK_AND_REPORT)
+    yield from (mark(2, PLAIN), withdraw(1), half(1, 6, 1200, (POINTED, UPRIGHT)), half(1, 5, 1200, (POINTED, UPRIGHT)))
+    yield from (*LOOK_AND_REPORT, *["undo"] * 4, *LOOK, "redo", *LOOK)
+    yield "# Ends: 64 changes, a refused one and the 65th"
+    yield from ("open 1200", half(1, 0, 0, (POINTED, POINTED)), *[mark(1, PLAIN)] * 63, refused, *LOOK, accepted, *LOOK)
+    yield from (*["undo"] * 2, refused, "counts", *["redo"] * 2, *LOOK, *["undo"] * 64, refused, *LOOK, "undo")
+
+
+def pointed_and_files(rng: Random, session: Session) -> Lines:
+    """A pointed U written, read back and reported; after the read one entered anew, and tanks in it."""
+    refused, accepted = half(1, 1200, 0, (POINTED, POINTED)), half(1, 0, 5, (POINTED, POINTED))
+    yield "# Ends: nothing of them is in the file"
+    for ends in ((POINTED, POINTED), (UPRIGHT, INNER)):
+        yield from ("open 1200", half(1, 0, 5, ends), half(2, 0, 1200, (POINTED, UPRIGHT)), hatchway(3, 20))
+        yield from (*LOOK_AND_REPORT, write(0, 0, 76))
+        yield from read_and_looked_at(session, dayfile.bytes_of(session.sheet, 0))
+    yield "# Ends: a pointed one after a read"
+    yield from (refused, withdraw(1), refused, *LOOK, accepted, *LOOK_AND_REPORT, "undo", refused, "redo", "counts")
+    yield from (tank_of_a_thousand(4, 2, 600, 0, 20, 20), tank_of_a_thousand(4, 1, 600, 0, 1200, 500))
+    yield from (tank_of_a_thousand(4, 1, 600, 0, 600, 500, BALLAST), room(5, 1, 60), room(6, 1, 1), *LOOK_AND_REPORT)
+    yield from (*read_and_looked_at(session, dayfile.bytes_of(session.sheet, 1)), refused, "counts")
+
+
 # Lines that are no calls, for each remark
 MALFORMED = (
     "", "#", "# open 1200", " ", " undo", "Undo", "UNDO", "undo\t", "undo\r", "open\t1200", "close", "reports 0", "0",
@@ -974,10 +1150,17 @@ MALFORMED = (
     "enter 9 0 4 0 18446744073709551616 5 5", "enter 9 0 4 0 10 18446744073709551616 5",
     "enter 9 0 4 0 10 5 5,18446744073709551616",
     enter(9, 0, H, 0, 10, [5] * (MOST_NUMBERS + 1), [5]), enter(9, 0, H, 0, 10, [5], [5] * (MOST_NUMBERS + 1)),
+    "enter 9 0 4 0 10 5 5 2", "enter 9 0 4 0 10 5 5 2 2 2", "enter 9 0 4 0 10 5 5 ", "enter 9 0 4 0 10 5 5 x",
+    "enter 9 0 4 0 10 5 5 x 2", "enter 9 0 4 0 10 5 5 2 x", "enter 9 0 4 0 10 5 5 - 2", "enter 9 0 4 0 10 5 5 2 -",
+    "enter 9 0 4 0 10 5 5 2,2 2", "enter 9 0 4 0 10 5 5  2", "enter 9 0 4 0 10 5 5 2 ", "enter 9 0 4 0 10 5 5  ",
+    "enter 9 0 4 0 10 5 5 -1 2", "enter 9 0 4 0 10 5 5 18446744073709551616 2",
+    "enter 9 0 4 0 10 5 5 2 18446744073709551616",
     # the first remark that fits, from left to right
     "opne", "opne x", "open x x", "open 18446744073709551616 x", "mark x 18446744073709551616",
     "mark 18446744073709551616 x", "enter 9 0 4 0 10 18446744073709551616,x 5",
     "enter 9 0 4 0 10 x,18446744073709551616 5",
+    "enter 9 0 4 0 10 5 x 18446744073709551616 2", "enter 9 0 4 0 10 5 18446744073709551616 x 2",
+    "enter 9 0 4 0 10 5 5 x 18446744073709551616", "enter 9 0 4 0 10 5 5 18446744073709551616 x",
     "enter 9 0 4 0 10 x " + word([5] * (MOST_NUMBERS + 1)), "enter 9 0 4 0 10 5" + ",x" * MOST_NUMBERS + " 5",
     "enter 9 0 4 0 10 5 " + "," * MOST_NUMBERS, "enter 9 0 4 0 10 5 " + "," * (MOST_NUMBERS - 1),
     # the calls on files
@@ -1103,10 +1286,57 @@ def with_fault(rng: Random, values: list[int], beyond: int) -> list[int]:
     return faulty[rng.randrange(len(faulty))]
 
 
+def with_end(rng: Random, heights: list[int], breadths: list[int], station: int) -> tuple[list[int], list[int]]:
+    """The measures of a U with no area at a station, by its depth or its breadths; now and then the least there is."""
+    row = len(breadths) // len(heights)
+    own, nothing = breadths[station * row:][:row], [0] * row
+    next_to_none = NEXT_TO_NO_DEPTH[row - 1]
+    ends = (
+        (0, own), (0, own), (next_to_none, own), (rng.randint(0, next_to_none), own), (heights[station], nothing),
+        (heights[station], nothing), (rng.randint(0, 9), nothing), (next_to_none + 1, own),
+        (heights[station], figures.changed(nothing, rng.randrange(row), 1)),
+    )
+    return with_station(heights, breadths, station, *ends[rng.randrange(len(ends))])
+
+
+def with_ends(rng: Random, heights: list[int], breadths: list[int]) -> tuple[list[int], list[int], Ends]:
+    """A U and what is said of its ends: mostly what it may be, else a pointed end that has area or no end's number."""
+    ends = [one_of(rng, (INNER, UPRIGHT, UPRIGHT, POINTED, POINTED)) for _ in range(2)]
+    for end, station in zip(ends, (0, len(heights) - 1)):
+        if end == POINTED and rng.randrange(5):
+            heights, breadths = with_end(rng, heights, breadths, station)
+    fault = rng.randrange(30)
+    if fault == 0:
+        return heights, breadths, ()
+    if fault < 3:
+        ends[rng.randrange(2)] = one_of(rng, (NOT_SAID, *BEYOND_ENDS))
+    return heights, breadths, tuple(ends)
+
+
+def unread_ends(rng: Random) -> Ends | None:
+    """Any two numbers or none, where they aren't read."""
+    return tuple(one_of(rng, (NOT_SAID, *s.ENDS, *BEYOND_ENDS)) for _ in range(2)) if rng.randrange(3) == 0 else None
+
+
 def entering(rng: Random, sheet: Sheet, most: int) -> Lines:
     """An entry of any kind, a U more likely while one is wanted."""
     short = s.under_deck_length(sheet.spaces) < sheet.length
     kind = U if short and rng.randrange(3) == 0 else one_of(rng, (U, B, S, S, H, H, *[R] * 12))
+    yield an_entry(rng, sheet, most, kind)
+
+
+def under_decking(rng: Random, sheet: Sheet, most: int) -> Lines:
+    """An entry of a U; where no length is left for it, one that encloses nothing is mostly withdrawn before."""
+    free = [space.id for space in sheet.spaces if space.kind == U and not s.rooms(sheet.spaces, space.id)]
+    left = sheet.length - s.under_deck_length(sheet.spaces)
+    if left < m.LEAST_LENGTH[U] and free and rng.randrange(6):
+        yield withdraw(one_of(rng, free))
+    else:
+        yield an_entry(rng, sheet, most, U)
+
+
+def an_entry(rng: Random, sheet: Sheet, most: int, kind: int) -> str:
+    """An entry of a kind, with a fault now and then."""
     id = new_id(rng, sheet, most)
     within = one_of(rng, (0, an_id(rng, sheet, most)))
     if kind == R:
@@ -1118,6 +1348,9 @@ def entering(rng: Random, sheet: Sheet, most: int) -> Lines:
         middle = one_of(rng, (1600, 1601, 1900)) if kind == U and rng.randrange(3) == 0 else None
         space = figures.asked(rng, kind, sheet.length or 1200, length, one_of(rng, (99, 999, 1999)), middle)
         heights, breadths = list(space.heights), list(space.breadths)
+    ends = unread_ends(rng)
+    if kind == U:
+        heights, breadths, ends = with_ends(rng, heights, breadths)
     fault = rng.randrange(60)
     if fault == 0:
         heights = with_fault(rng, heights, 20_001)
@@ -1127,7 +1360,7 @@ def entering(rng: Random, sheet: Sheet, most: int) -> Lines:
         length = one_of(rng, (0, 150_001, *BEYOND_32))
     elif fault == 3:
         kind = one_of(rng, (0, 6, *BEYOND_8))
-    yield enter(id, within, kind, a_standing(rng, kind), length, heights, breadths)
+    return enter(id, within, kind, a_standing(rng, kind), length, heights, breadths, ends)
 
 
 def ends_of_tank(rng: Random, tonnage_length: int, under_deck_length: int) -> tuple[int, int]:
@@ -1168,7 +1401,8 @@ def entered_anew(rng: Random, sheet: Sheet) -> Lines:
     for space in sheet.spaces:
         if space.kind == U and space.m == s.NO_M and not s.rooms(sheet.spaces, space.id):
             new = figures.asked(rng, U, sheet.length, space.length, 999, one_of(rng, (900, 1900)))
-            yield from (withdraw(space.id), enter(space.id, 0, U, PLAIN, new.length, new.heights, new.breadths))
+            measures = with_ends(rng, list(new.heights), list(new.breadths))
+            yield from (withdraw(space.id), enter(space.id, 0, U, PLAIN, new.length, *measures))
             return
 
 
@@ -1308,14 +1542,36 @@ def walk(rng: Random, session: Session, most: int, moves: int) -> Lines:
 TANKS = (tanking,) * 10 + (entering, marking, withdrawing, undoing, redoing, reporting, looking, zoning)
 
 
+def a_large_one(rng: Random, id: int, tonnage_length: int, length: int) -> str:
+    """The entry of a U of one depth and one breadth, but for the depth at its pointed ends, if it has some."""
+    depth = one_of(rng, (1600, 1601))
+    space = figures.uniform(U, tonnage_length, length, depth, 2000)
+    heights, ends = list(space.heights), tuple(one_of(rng, (INNER, UPRIGHT, UPRIGHT, POINTED)) for _ in range(2))
+    for end, station in zip(ends, (0, -1)):
+        if end == POINTED:
+            heights[station] = rng.randint(0, NEXT_TO_NO_DEPTH[m.parts_of_depth(depth)])
+    return enter(id, 0, U, PLAIN, length, heights, space.breadths, ends)
+
+
 def tank_walk(rng: Random, session: Session) -> Lines:
     """Mostly tanks, on a sheet of large U whose thirds of the interval are mostly whole hundredths."""
     lengths = [36 * rng.randint(3, one_of(rng, (30, 120, 240))) for _ in range(one_of(rng, (1, 1, 2, 3)))]
     yield f"open {sum(lengths)}"
     for id, length in enumerate(lengths, start=1):
-        yield divided(id, U, sum(lengths), length, one_of(rng, (1600, 1601)), 2000)
+        yield a_large_one(rng, id, sum(lengths), length)
     for _ in range(rng.randint(15, 40)):
         yield from TANKS[rng.randrange(len(TANKS))](rng, session.sheet, 30)
+    yield from LOOK_AND_REPORT
+
+
+UNDER_DECKS = (under_decking,) * 10 + (entering, tanking, withdrawing, undoing, redoing, reporting, looking)
+
+
+def under_deck_walk(rng: Random, session: Session) -> Lines:
+    """Mostly U, with what is said of their ends."""
+    yield f"open {one_of(rng, (1200, 1200, 2000, 3000, 4800))}"
+    for _ in range(rng.randint(15, 40)):
+        yield from UNDER_DECKS[rng.randrange(len(UNDER_DECKS))](rng, session.sheet, 30)
     yield from LOOK_AND_REPORT
 
 
@@ -1327,6 +1583,8 @@ def walks(rng: Random, session: Session) -> Lines:
             yield from walk(rng, session, 9, 8)
         if rng.randrange(2) == 0:
             yield from tank_walk(rng, session)
+        if rng.randrange(2) == 0:
+            yield from under_deck_walk(rng, session)
         yield f"open {one_of(rng, TONNAGE_LENGTHS)}"
         yield from walk(rng, session, one_of(rng, (8, 30, 30, 300, 9_999)), rng.randint(60, 260))
         yield from LOOK_AND_REPORT
@@ -1348,7 +1606,8 @@ SECTIONS: tuple[Section, ...] = (
     not_open, openings, paper_sheet, hatchways, ballast, reports, kinds_by_standings, all_at_once, ranges, levels,
     sums_of_rooms, sums_of_lengths, two_hundred, sixty_four, redo_after, order_of_entry, ids_again, not_plain,
     writes, places_in_a_buffer, written_and_read, changes_after_a_read, generated_files, tank_figures, tank_refusals,
-    tank_ranges, tank_sections, tanks_and_files, tanks_as_rooms, where_to_measure, malformed, crowded,
+    tank_ranges, tank_sections, tanks_and_files, tanks_as_rooms, where_to_measure, pointed_figures, pointed_ends,
+    pairs_of_ends, ends_said, pointed_refusals, pointed_and_changed, pointed_and_files, malformed, crowded,
 )
 SEEDS = range(69_107, 69_117)  # of the walks behind the sections
 CALLS_OF_A_WALK = 150

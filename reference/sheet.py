@@ -2,9 +2,9 @@
 
 A sheet is a value that never changes: every call answers its number, its values and the sheet after it. What can be
 undone and redone is kept as whole copies of the standing spaces, one for each open change.
-Quoted sentences are the paper's, those on tanks the request T-01's. Of all the numbers of refusal that apply to a call
-the lowest is given; one that can't be judged (a level in an enclosing space that doesn't stand, say) counts as not
-applying.
+Quoted sentences are the paper's, those on tanks the request T-01's, those on ends of a U T-02's. Of all the numbers of
+refusal that apply to a call the lowest is given; one that can't be judged (a level in an enclosing space that doesn't
+stand, say) counts as not applying.
 """
 
 from dataclasses import dataclass, replace
@@ -26,6 +26,7 @@ ENCLOSES = 11  # withdrawal of a space that encloses a room
 NOTHING_OPEN = 12  # nothing undoable, or nothing redoable
 LENGTHS_SHORT = 13  # U lengths don't add up to the tonnage length
 NOT_JUSTIFIED = 14  # ballast over 30%, not justified
+POINTED_WITH_AREA = 19  # U with a pointed end that has area; 'after all the others'
 WITHOUT_M = 29  # tank in a U that has no m; 'after all the others'
 
 # Standings, and 'which kind may have which standing is a table of five rows by four columns'.
@@ -40,6 +41,11 @@ MAY_HAVE = {
     H: (True, False, False, False),
     R: (True, True, True, True),
 }
+
+# What an entry says of an end: 'inner (at a step), upright or pointed'. Nothing of it is recorded.
+NOT_SAID = 0
+INNER, UPRIGHT, POINTED = 1, 2, 3
+ENDS = (INNER, UPRIGHT, POINTED)
 
 NOT_ENCLOSED = 0  # the enclosing id of a U, B, S or H
 NO_M = 0  # of every space but a U entered from offsets
@@ -200,6 +206,11 @@ def out_of_range(
     return standing not in STANDINGS or m.out_of_range(kind, sheet.length, length, heights, breadths)
 
 
+def end_not_said(kind: int, fore: int, aft: int) -> bool:
+    """2: 'a U now says of each end whether it is inner (at a step), upright or pointed'; of others it isn't read."""
+    return kind == U and (fore not in ENDS or aft not in ENDS)
+
+
 def wrong_number(sheet: Sheet, kind: int, length: int, heights: Sequence[int], breadths: Sequence[int]) -> bool:
     """3: 'stations, depths, heights or breadths not the number the rules ask'; they ask none of an unknown kind."""
     return kind in KINDS and m.wrong_number(kind, sheet.length, length, heights, breadths)
@@ -283,6 +294,15 @@ def no_place(spaces: State) -> bool:
     return len(spaces) >= PLACES
 
 
+def pointed_with_area(
+    sheet: Sheet, new: Space, heights: Sequence[int], breadths: Sequence[int], fore: int, aft: int
+) -> bool:
+    """19: 'where a pointed end has area', of a U that can be measured; 'a pointed end must have area 0'."""
+    if new.kind != U or m.measure(U, sheet.length, new.length, heights, breadths)[0]:
+        return False
+    return any(end == POINTED and area for end, area in zip((fore, aft), m.areas_of_ends(heights, breadths)))
+
+
 def encloses(spaces: State, id: int) -> bool:
     """11: 'withdrawal of a space that encloses a room'."""
     return bool(rooms(spaces, id))
@@ -324,12 +344,19 @@ def numbers_of_new(sheet: Sheet, new: Space) -> set[int]:
     })
 
 
-def numbers_of_entry(sheet: Sheet, new: Space, heights: Sequence[int], breadths: Sequence[int]) -> set[int]:
-    """Those from 1 to 10, for a new space with all its measures."""
+def numbers_of_entry(
+    sheet: Sheet, new: Space, heights: Sequence[int], breadths: Sequence[int], fore: int = NOT_SAID,
+    aft: int = NOT_SAID,
+) -> set[int]:
+    """Those from 1 to 10, and 19, for a new space with all its measures and what is said of its ends."""
     return numbers_of_new(sheet, new) | applying({
         SHEET_NOT_OPEN: not sheet.is_open,
-        OUT_OF_RANGE: out_of_range(sheet, new.kind, new.standing, new.length, heights, breadths),
+        OUT_OF_RANGE: (
+            out_of_range(sheet, new.kind, new.standing, new.length, heights, breadths)
+            or end_not_said(new.kind, fore, aft)
+        ),
         WRONG_NUMBER: wrong_number(sheet, new.kind, new.length, heights, breadths),
+        POINTED_WITH_AREA: pointed_with_area(sheet, new, heights, breadths, fore, aft),
     })
 
 
@@ -421,11 +448,14 @@ def new_space(
 
 def enter(
     sheet: Sheet, id: int, within: int, kind: int, standing: int, length: int, heights: Sequence[int],
-    breadths: Sequence[int],
+    breadths: Sequence[int], fore: int = NOT_SAID, aft: int = NOT_SAID,
 ) -> tuple[int, Sheet]:
-    """A new space comes last in order, whatever stood before; the enclosing id is read only for a room."""
+    """A new space comes last in order, whatever stood before.
+
+    The enclosing id is read only for a room, and what is said of the ends only for a U.
+    """
     new = new_space(sheet, id, within, kind, standing, length, heights, breadths)
-    number = lowest(numbers_of_entry(sheet, new, heights, breadths))
+    number = lowest(numbers_of_entry(sheet, new, heights, breadths, fore, aft))
     return number, sheet if number else changed(sheet, (*sheet.spaces, new))
 
 

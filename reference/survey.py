@@ -9,7 +9,7 @@ between them and a space at an end of the line an empty word beside it.
 A line that is no call is answered by '?' and a remark, and changes nothing. It is judged in this order, and the first
 remark that fits is given:
     ? unknown call              the first word is no call (an empty one neither)
-    ? wrong number of words     the call has another number of words
+    ? wrong number of words     the call has another number of words (an entry has those for both its ends, or neither)
 then the words behind the call from left to right, each
     ? not a number              a number that isn't one or more of the digits 0 to 9
     ? number too large          a number above 2^64-1 (zeros in front are no matter)
@@ -20,8 +20,8 @@ then the words behind the call from left to right, each
     ? file too long             a file of more than 131,072 characters, whatever they are ('-' is that of no bytes)
     ? not hex                   a file, not too long, that is empty or has an odd number of characters or one other than
                                 0 to 9 and a to f
-Every word is judged so, an enclosing id too that isn't read. A word on the left goes before one on the right: a buffer
-too large before a filling that is no number.
+Every word is judged so, an enclosing id and an end too where they aren't read. A word on the left goes before one on
+the right: a buffer too large before a filling that is no number.
     ? script too long           the only answer to a script over 1,048,576 bytes, of which no call is made
 """
 
@@ -53,7 +53,7 @@ MOST_DIGITS = 2 * GREATEST_SIZE  # two digits a byte
 HEX_DIGITS = frozenset("0123456789abcdef")
 GREATEST_NUMBER = 2**64 - 1
 GREATEST_ID = 2**16 - 1
-GREATEST_CODE = 2**8 - 1  # of a kind, a standing and a justified mark
+GREATEST_CODE = 2**8 - 1  # of a kind, a standing, an end and a justified mark
 GREATEST_MEASURE = 2**32 - 1
 GREATEST_BYTE = 2**8 - 1
 
@@ -80,7 +80,7 @@ def an_id(word: str) -> int:
 
 
 def a_code(word: str) -> int:
-    """A kind, a standing or a justified mark."""
+    """A kind, a standing, an end or a justified mark."""
     return min(number(word), GREATEST_CODE)
 
 
@@ -167,7 +167,7 @@ def write(sheet: Sheet, justified: int, at: int, size: int) -> Answer:
 
 CALLS: dict[str, tuple[tuple[Reader, ...], Callable[..., Answer]]] = {
     "open": ((a_measure,), lambda sheet, length: s.open_sheet(length)),
-    "enter": ((an_id, an_id, a_code, a_code, a_measure, measures, measures), s.enter),
+    "enter": ((an_id, an_id, a_code, a_code, a_measure, measures, measures, a_code, a_code), s.enter),
     "tank": ((an_id, an_id, a_code, a_measure, a_measure, measures, measures), s.enter_tank),
     "zones": ((a_measure, a_measure, a_measure, a_measure), zones),
     "withdraw": ((an_id,), s.withdraw),
@@ -182,17 +182,21 @@ CALLS: dict[str, tuple[tuple[Reader, ...], Callable[..., Answer]]] = {
     "before": ((number, a_file), lambda sheet, start, file: dayfile.read_before(file, start)),
     "spaces": ((), spaces),
 }
+MAY_BE_LEFT_OUT = {"enter": 2}  # words at the end of a line: FORE AFT, then both 0
 
 
 # Lines, of this protocol and of that of figures.py
 
 
-def arguments(readers: dict[str, tuple[Reader, ...]], words: list[str]) -> list[Any]:
-    """What the words of a line hand to its call, where each call's words are to be read so."""
+def arguments(readers: dict[str, tuple[Reader, ...]], words: list[str], may_be_left_out: int = 0) -> list[Any]:
+    """What the words of a line hand to its call, where each call's words are to be read so.
+
+    So many of the last ones may be left out, all of them or none; the call knows what to take for them.
+    """
     name, *behind = words
     if name not in readers:
         raise NoCall(UNKNOWN_CALL)
-    if len(behind) != len(readers[name]):
+    if len(readers[name]) - len(behind) not in (0, may_be_left_out):
         raise NoCall(WRONG_NUMBER_OF_WORDS)
     return [read(word) for read, word in zip(readers[name], behind)]
 
@@ -227,7 +231,8 @@ class Session:
 
     def call(self, words: list[str]) -> str:
         """Makes the call of a line's words; where they are none, NoCall is raised and nothing is changed."""
-        given = arguments({name: readers for name, (readers, _) in CALLS.items()}, words)
+        readers = {name: of_call for name, (of_call, _) in CALLS.items()}
+        given = arguments(readers, words, MAY_BE_LEFT_OUT.get(words[0], 0))
         *values, self.sheet = CALLS[words[0]][1](self.sheet, *given)
         return " ".join(map(str, values))
 

@@ -195,6 +195,42 @@ class Readings(unittest.TestCase):
         without_ends = m.volume_of_under_deck(1500, [1200] * 3, [0] * 5 + [1000] * 5 + [0] * 5)
         self.assertEqual((whole, without_ends), (1800, 1200))
 
+    def test_areas_of_ends(self) -> None:
+        """Of a depth of 12 ft with breadths of 10 ft: a third interval of 1 ft, 12 breadths, 120 square feet."""
+        broad, none = [1000] * 5, [0] * 5
+        for depths, breadths, areas in (
+            ([1200] * 3, broad * 3, (120, 120)), ([0, 1200, 1200], broad * 3, (0, 120)),
+            ([1200, 1200, 0], broad * 3, (120, 0)), ([1200] * 3, none + broad * 2, (0, 120)),
+            ([1200] * 3, broad * 2 + none, (120, 0)), ([600, 1200, 2400], broad * 3, (60, 240)),
+            ([1200] * 7, none + broad * 6, (0, 120)), ([1200] * 7, none + broad * 5 + none, (0, 0)),
+        ):
+            self.assertEqual(m.areas_of_ends(depths, breadths), areas)
+
+    def test_an_end_has_area_by_its_rounded_third_interval(self) -> None:
+        """5/12 and 8/18 round to 0; 6/12 and 9/18 are halves and go up, to a hundredth of a foot."""
+        for depth, middle, row, third in (
+            (5, 1600, 5, 0), (6, 1600, 5, 1), (8, 1601, 7, 0), (9, 1601, 7, 1), (8, 1600, 5, 1), (6, 1601, 7, 0),
+        ):
+            area = 3 * (row - 1) * 10 * Fraction(third, 100)
+            self.assertEqual(m.areas_of_ends([depth, middle, depth], [1000] * (3 * row)), (area, area))
+
+    def test_one_breadth_gives_an_end_area(self) -> None:
+        """Once, four times, twice, four times and once, of a hundredth of a foot, times a foot."""
+        for place, times in enumerate((1, 4, 2, 4, 1)):
+            one = [int(place == other) for other in range(5)]
+            self.assertEqual(m.areas_of_ends([1200] * 3, one + [0] * 10), (Fraction(times, 100), 0))
+            self.assertEqual(m.areas_of_ends([1200] * 3, [0] * 10 + one), (0, Fraction(times, 100)))
+
+    def test_the_volume_of_a_pointed_one_is_that_of_its_other_sections(self) -> None:
+        """The paper's box has 240 square feet at each station, times 2.667 ft: 18 of them, 17 and 16 count."""
+        for depths, sections in (
+            ([1200] * 7, 18), ([0] + [1200] * 6, 17), ([5] + [1200] * 6, 17), ([1200] * 6 + [0], 17),
+            ([0] + [1200] * 5 + [5], 16),
+        ):
+            volume = m.volume_of_under_deck(4800, depths, [2000] * 35)
+            self.assertEqual(volume, sections * 240 * Fraction(2667, 1000))
+            self.assertEqual(m.areas_of_under_deck(depths, [2000] * 35)[1:-1], [240] * 5)
+
     def test_breadths_go_station_by_station(self) -> None:
         """The second station's first breadth is the sixth of the list."""
         breadths = [0] * 15

@@ -5,17 +5,17 @@ import unittest
 from contextlib import redirect_stderr, redirect_stdout
 from dataclasses import FrozenInstanceError, dataclass, replace
 from functools import cache, cached_property
-from itertools import combinations
+from itertools import combinations, product
 from typing import Any, Iterator
 from unittest import mock
 
 from reference import dayfile, measure as m, scripts, sheet as s, survey
 from reference.measure import B, H, R, S, U
 from reference.scripts import (
-    a_thousand, chain, divided, enter, even_tank, hatchway, mark, read_and_entered_anew, room, tank, tank_of_a_thousand,
-    twenty_thousand, withdraw, zones,
+    a_thousand, by_stations, chain, divided, enter, even_tank, half, hatchway, mark, read_and_entered_anew, room, tank,
+    tank_of_a_thousand, twenty_thousand, withdraw, zones,
 )
-from reference.sheet import BALLAST, DEDUCTED, EXEMPT, PLAIN, Sheet, Space
+from reference.sheet import BALLAST, DEDUCTED, EXEMPT, INNER, PLAIN, POINTED, UPRIGHT, Sheet, Space
 from reference.survey import Session
 
 BEGINNINGS = ("open", "read", "before")  # they 'take no sheet and answer a new one'
@@ -57,8 +57,20 @@ class Step:
 
     @cached_property
     def new(self) -> Space:
-        """The space that an entry or a tank hands in."""
-        return (s.new_tank if self.call == "tank" else s.new_space)(self.before, *self.arguments)
+        """The space that an entry or a tank hands in; nothing of what an entry says of its ends is in it."""
+        return (s.new_tank if self.call == "tank" else s.new_space)(self.before, *self.arguments[:7])
+
+    @property
+    def ends(self) -> tuple[int, ...]:
+        """What an entry says of its ends, nothing where they are left out."""
+        return tuple(self.arguments[7:])
+
+    @cached_property
+    def numbers(self) -> set[int]:
+        """All that apply to an entry or a tank."""
+        if self.call == "tank":
+            return s.numbers_of_tank(self.before, self.new, *self.arguments[4:])
+        return s.numbers_of_entry(self.before, self.new, *self.arguments[5:])
 
 
 def steps(text: str) -> list[Step]:
@@ -111,6 +123,10 @@ class OfCalls(unittest.TestCase):
             self.assertEqual(answer.split(" ")[0], str(number), msg=line)
         self.assertEqual(self.session.sheet, before)
 
+    def numbers(self, line: str) -> set[int]:
+        """All that apply to an entry or a tank."""
+        return steps_from(self.session.sheet, line).numbers
+
     def ids(self) -> list[int]:
         """The ids of the standing spaces in order of entry."""
         return [space.id for space in self.session.sheet.spaces]
@@ -140,8 +156,9 @@ class FiguresOfThePaper(OfCalls):
             (4, 2, R, 3, 800, 800, 500), (5, 0, H, 0, 500, 500, 400),
         ):
             count = {U: (7, 35), S: (3, 3)}.get(kind, (1, 1))
+            ends = (UPRIGHT, UPRIGHT) if kind == U else ()
             number, sheet = s.enter(
-                sheet, id, within, kind, standing, length, [height] * count[0], [breadth] * count[1]
+                sheet, id, within, kind, standing, length, [height] * count[0], [breadth] * count[1], *ends
             )
             self.assertEqual(number, 0)
         self.assertEqual(s.report(sheet, 0), (0, 12439, 12119, sheet))
@@ -504,11 +521,6 @@ class ReadingsOfTanks(OfCalls):
         self.accepted(*read_and_entered_anew(), mark(3, EXEMPT), hatchway(4, 50), room(5, 1, 10), room(6, 2, 10))
         self.accepted(divided(7, B, 1200, 1200, 50, 50), *chain(1, 11, 7, 1))
 
-    def numbers(self, line: str) -> set[int]:
-        """All that apply to a tank."""
-        step = steps_from(self.session.sheet, line)
-        return s.numbers_of_tank(step.before, step.new, *step.arguments[-3:])
-
     def test_the_whole_box(self) -> None:
         self.accepted("open 4800", divided(1, U, 4800, 4800, 1200, 2000))
         self.accepted(tank(2, 1, BALLAST, 4800, 0, [1200] * 7, [2000] * 35))
@@ -734,6 +746,220 @@ class ReadingsOfTanks(OfCalls):
                 self.refused(number, form.format(value))
 
 
+class ReadingsOfEnds(OfCalls):
+    """Pointed bows: what a U says of its ends, 2 and 19, by figures worked out by hand.
+
+    `half` is a U of 600 in two parts: each of its stations of a depth of 12 ft has 12 times 5 ft times 1 ft, 60 square
+    feet, and the third interval of its length is 1 ft. So its ends give 60 each, in hundredths of a ton, and its middle
+    station, counted four times, 240.
+    """
+
+    WITH_AREA, WITHOUT_AREA = ([99] * 3, [9] * 15), ([0, 99, 0], [9] * 15)  # at the ends of a U of 600
+    OTHERS = (
+        (B, 1200, [500] * 7, [500] * 7), (S, 300, [500] * 3, [500] * 3), (H, 100, [500], [500]), (R, 10, [500], [500])
+    )
+
+    def tonnage(self, line: str) -> int:
+        """Of an entry that must be accepted, which is undone then."""
+        self.accepted(line)
+        own = self.session.sheet.spaces[-1].tonnage
+        self.accepted("undo")
+        return own
+
+    def judged(self, has_area: bool, line: str) -> None:
+        """An entry that is refused with 19 alone where a pointed end has area, and else accepted."""
+        self.assertEqual(self.numbers(line), {19} if has_area else set(), msg=line)
+        if has_area:
+            self.refused(19, line)
+        else:
+            self.accepted(line, "undo")
+
+    def box(self, fore: tuple[int, int], aft: tuple[int, int], ends: tuple[int, int]) -> str:
+        """The paper's box with another depth and breadth at its ends."""
+        stations = (fore, *[(1200, 2000)] * 5, aft)
+        return by_stations(1, 4800, [(depth, [breadth] * 5) for depth, breadth in stations], ends)
+
+    def test_the_box_is_upright(self) -> None:
+        """'Document 01's box is upright at both ends; its figure stands.'"""
+        self.accepted("open 4800")
+        section = (1200, 2000)
+        self.assertEqual(self.tonnage(self.box(section, section, (UPRIGHT, UPRIGHT))), 11521)
+        self.assertEqual(self.box(section, section, (UPRIGHT, UPRIGHT)), divided(1, U, 4800, 4800, 1200, 2000))
+        self.assertEqual(self.tonnage(self.box(section, section, (INNER, INNER))), 11521)
+        for ends in ((POINTED, UPRIGHT), (UPRIGHT, POINTED), (POINTED, POINTED)):
+            self.refused(19, self.box(section, section, ends))
+
+    def test_tonnage_is_that_of_the_other_sections(self) -> None:
+        """240 square feet a section, times 2.667 ft: 17 times with one pointed end, 10881.36, 16 with two, 10241.28."""
+        self.accepted("open 4800")
+        section, ends = (1200, 2000), ((0, 2000), (1200, 0), (5, 2000), (0, 0))
+        for end in ends:
+            self.assertEqual(self.tonnage(self.box(end, section, (POINTED, UPRIGHT))), 10881)
+            self.assertEqual(self.tonnage(self.box(section, end, (UPRIGHT, POINTED))), 10881)
+            self.assertEqual(self.tonnage(self.box(end, section, (UPRIGHT, UPRIGHT))), 10881)
+        for fore, aft in product(ends, repeat=2):
+            self.assertEqual(self.tonnage(self.box(fore, aft, (POINTED, POINTED))), 10241)
+
+    def test_inner_upright_and_pointed(self) -> None:
+        """In all pairs; 19 where an end that is said to be pointed has area, whatever the other one has."""
+        self.accepted("open 1200")
+        for fore, aft in product((1, 2, 3), repeat=2):
+            for fore_depth, aft_depth in product((0, 1200), repeat=2):
+                line = half(1, fore_depth, aft_depth, (fore, aft))
+                has_area = fore == 3 and fore_depth > 0 or aft == 3 and aft_depth > 0
+                self.judged(has_area, line)
+                if not has_area:
+                    self.assertEqual(self.tonnage(line), 240 + 60 * (fore_depth > 0) + 60 * (aft_depth > 0))
+
+    def test_the_fore_end_is_the_first_station(self) -> None:
+        """And the aft end is the last, of two parts, of six and of sixteen."""
+        for length, number in ((600, 2), (1200, 6), (25_001, 16)):
+            self.accepted(f"open {max(length, 1200)}")
+            for place in range(number + 1):
+                stations = [(9, [9 if other == place else 0] * 5) for other in range(number + 1)]
+                self.judged(place == 0, by_stations(1, length, stations, (POINTED, UPRIGHT)))
+                self.judged(place == number, by_stations(1, length, stations, (INNER, POINTED)))
+                self.judged(place in (0, number), by_stations(1, length, stations, (POINTED, POINTED)))
+
+    def test_no_area(self) -> None:
+        """Depth 0, breadths all 0, or a third interval of depth that rounds to 0: below 6 in 4 parts, below 9 in 6."""
+        self.accepted("open 1200")
+        for middle, row, least in ((1600, 5, 6), (1601, 7, 9)):
+            full, broad, none = (middle, [9] * row), [30_000] * row, [0] * row
+            ends = [(depth, breadths) for depth in (0, 1, 5, 6, 8, 9, 20_000) for breadths in (broad, none)]
+            for depth, breadths in ends:
+                end, has_area = (depth, breadths), depth >= least and breadths == broad
+                self.judged(has_area, by_stations(1, 600, [end, full, full], (POINTED, UPRIGHT)))
+                self.judged(has_area, by_stations(1, 600, [full, full, end], (INNER, POINTED)))
+                self.judged(has_area, by_stations(1, 600, [end, full, end], (POINTED, POINTED)))
+
+    def test_one_breadth_among_zeros(self) -> None:
+        self.accepted("open 1200")
+        for middle, row, least in ((1600, 5, 6), (1601, 7, 9)):
+            full = (middle, [9] * row)
+            for place, depth in product(range(row), (least - 1, least)):
+                end = (depth, [int(place == other) for other in range(row)])
+                self.judged(depth == least, by_stations(1, 600, [end, full, full], (POINTED, UPRIGHT)))
+                self.judged(depth == least, by_stations(1, 600, [full, full, end], (INNER, POINTED)))
+
+    def test_numbers_that_are_no_ends(self) -> None:
+        """2, at each end and at both, with area and without; 0 is none."""
+        self.accepted("open 1200")
+        for one in (0, 4, 5, 254, 255, 256, 257, 258, 259, 2**16 + 3, 2**64 - 1):
+            for ends in ((one, 1), (2, one), (one, 3), (3, one), (one, one)):
+                self.refused(2, enter(1, 0, U, 0, 600, *self.WITHOUT_AREA, ends))
+                self.refused(2, enter(1, 0, U, 0, 600, *self.WITH_AREA, ends))
+
+    def test_left_out(self) -> None:
+        """Then both are 0, so a U must say and others needn't; one word alone is no call."""
+        self.accepted("open 1200", half(1, 1200, 1200, (UPRIGHT, INNER)))
+        self.refused(2, half(2, 0, 0, ()), half(2, 1200, 1200, ()), half(2, 0, 0, (0, 0)))
+        for kind, *measures in self.OTHERS:
+            self.tonnage(enter(7, 1, kind, 0, *measures, ()))
+            self.asks(enter(7, 1, kind, 0, *measures, (UPRIGHT,)), "? wrong number of words")
+        for ends in ((0,), (UPRIGHT,), (POINTED,), (UPRIGHT,) * 3):
+            self.asks(half(2, 0, 0, ends), "? wrong number of words")
+        self.assertEqual(self.ids(), [1])
+        self.accepted(half(2, 0, 0, (UPRIGHT, UPRIGHT)))
+
+    def test_looked_at_only_of_an_under_deck_part(self) -> None:
+        """Any number is right for others, a pointed end too where they have breadth and height."""
+        self.accepted("open 1200", half(1, 1200, 1200, (UPRIGHT, INNER)))
+        for kind, *measures in self.OTHERS:
+            said = self.tonnage(enter(7, 1, kind, 0, *measures, ()))
+            for ends in ((0, 0), (1, 2), (3, 3), (0, 3), (4, 255), (256, 259), (2**64 - 1, 2**64 - 1)):
+                self.assertEqual(self.tonnage(enter(7, 1, kind, 0, *measures, ends)), said)
+        for kind, ends in product((0, 6, 255, 257), ((), (2, 2), (3, 3), (4, 4))):
+            self.assertEqual(self.numbers(enter(7, 1, kind, 0, 600, *self.WITH_AREA, ends)), {2})
+
+    def test_after_all_the_others(self) -> None:
+        """19 is given alone; beside any other number that one is given. Where 3 applies it isn't judged."""
+        pointed = (POINTED, POINTED)
+        self.asks(enter(1, 0, U, 0, 600, *self.WITH_AREA, pointed), "1")
+        self.accepted("open 1200", half(1, 1200, 1200, (UPRIGHT, INNER)))
+        depths, breadths = self.WITH_AREA
+
+        def entry(id: int = 2, standing: int = PLAIN, length: int = 600, ends: tuple[int, int] = pointed) -> str:
+            return enter(id, 0, U, standing, length, depths, breadths, ends)
+
+        for numbers, line in (
+            ({19}, entry()), ({19}, entry(ends=(POINTED, UPRIGHT))), ({19}, entry(ends=(INNER, POINTED))),
+            (set(), entry(ends=(INNER, UPRIGHT))),
+            ({2, 19}, entry(standing=4)), ({2, 19}, entry(ends=(POINTED, 0))), ({2, 19}, entry(ends=(4, POINTED))),
+            ({2}, entry(ends=(INNER, 4))), ({2}, entry(length=99)),
+            ({2}, enter(2, 0, U, 0, 600, depths, [*breadths[1:], 30_001], pointed)),
+            ({2, 3, 9}, entry(length=150_001)), ({3}, enter(2, 0, U, 0, 600, depths, breadths[1:], pointed)),
+            ({3}, enter(2, 0, U, 0, 600, depths[1:], breadths, pointed)),
+            ({3}, enter(2, 0, U, 0, 600, [], [], pointed)),
+            ({2, 3}, enter(2, 0, U, 0, 600, depths, [9, *breadths], (POINTED, 4))),
+            ({4, 19}, entry(id=1)), ({4, 19}, entry(id=0)), ({4, 19}, entry(id=10_000)),
+            ({6, 19}, entry(standing=EXEMPT)), ({9, 19}, entry(length=601)),
+            ({4, 6, 9, 19}, entry(id=1, standing=DEDUCTED, length=601)),
+            ({2, 4, 9, 19}, entry(id=1, standing=4, length=601)), ({2, 4, 6, 9}, entry(1, 1, 601, (0, 0))),
+        ):
+            self.assertEqual(self.numbers(line), numbers, msg=line)
+            if numbers:
+                self.refused(min(numbers), line)
+        self.accepted(*(room(id, 1) for id in range(1000, 1000 + s.PLACES - 1)))
+        for numbers, line in (
+            ({10, 19}, entry()), ({10}, entry(ends=(INNER, UPRIGHT))), ({9, 10, 19}, entry(length=601)),
+            ({6, 10, 19}, entry(standing=EXEMPT)), ({4, 10, 19}, entry(id=1)), ({2, 10, 19}, entry(ends=(POINTED, 0))),
+        ):
+            self.assertEqual(self.numbers(line), numbers, msg=line)
+            self.refused(min(numbers), line)
+        self.accepted(withdraw(1000))
+        self.refused(19, entry())
+        self.accepted(enter(2, 0, U, 0, 600, *self.WITHOUT_AREA, pointed))
+
+    def test_a_refused_one_changes_nothing(self) -> None:
+        """What could be undone and made again still can."""
+        refused = half(2, 1200, 0, (POINTED, POINTED))
+        self.accepted("open 1200", half(1, 0, 1200, (POINTED, INNER)), hatchway(5, 20), mark(5, PLAIN), "undo")
+        for counts, after in (
+            ("0 2 1", "redo"), ("0 3 0", "undo"), ("0 2 1", "undo"), ("0 1 2", "undo"), ("0 0 3", "redo")
+        ):
+            self.asks("counts", counts)
+            self.refused(19, refused)
+            self.asks("counts", counts)
+            self.accepted(after)
+        self.assertEqual(self.session.sheet.spaces, (Space(1, 0, U, 0, 300, 600, 4),))
+
+    def test_a_change_like_any(self) -> None:
+        """Undone and made again, withdrawn and put back, with its m and rooms inside it."""
+        accepted = half(2, 5, 0, (POINTED, POINTED))
+        own = Space(2, 0, U, 0, 240, 600, 4)
+        self.accepted("open 1200", half(1, 0, 1200, (POINTED, INNER)), accepted)
+        self.assertEqual(self.session.sheet.spaces, (Space(1, 0, U, 0, 300, 600, 4), own))
+        self.accepted("undo")
+        self.assertEqual(self.ids(), [1])
+        self.accepted("redo", withdraw(2), "undo", mark(2, PLAIN))
+        self.assertEqual(self.session.sheet.spaces[-1], own)
+        self.refused(9, room(3, 2, 241))
+        self.accepted(room(3, 2, 60, DEDUCTED), tank_of_a_thousand(4, 2, 600, 0, 600, 500))
+        self.assertEqual(self.session.sheet.spaces[-1].tonnage, 180)
+        self.asks("report 0", "0 540 480")
+
+    def test_nothing_is_recorded(self) -> None:
+        """The file is as it was, so reading gives no 19; a tank has no ends to say."""
+        files = set()
+        spaces = Space(1, 0, U, 0, 240, 600, 4), Space(2, 0, U, 0, 300, 600, 4)
+        for ends in product((1, 2, 3), repeat=2):
+            self.accepted("open 1200", half(1, 0, 5, ends), half(2, 0, 1200, (POINTED, UPRIGHT)))
+            self.assertEqual(self.session.sheet.spaces, spaces)
+            files.add(dayfile.bytes_of(self.session.sheet, 0))
+        [file] = files
+        self.assertEqual(len(file), 60)
+        self.asks(scripts.read(file), "0 0 0 0")
+        self.asks("report 0", "0 540 540")
+        self.assertEqual(dayfile.bytes_of(self.session.sheet, 0), file)
+        self.accepted(withdraw(1))
+        self.refused(19, half(1, 1200, 0, (POINTED, POINTED)))
+        self.accepted(half(1, 0, 0, (POINTED, POINTED)))
+        own = tank_of_a_thousand(3, 1, 300, 0)
+        self.asks(f"{own} 2 2", "? wrong number of words")
+        self.accepted(own)
+
+
 class ReadingsOfReports(OfCalls):
     """How the open points are read that speak of gross, net and ballast."""
 
@@ -886,6 +1112,14 @@ class Protocol(OfCalls):
             ("open", "? wrong number of words"), ("undo ", "? wrong number of words"),
             ("open  1200", "? wrong number of words"), ("open 1200 ", "? wrong number of words"),
             ("enter 1 0 4 0 10 5", "? wrong number of words"), ("open x y", "? wrong number of words"),
+            ("enter 1 0 4 0 10 5 5 2", "? wrong number of words"), ("enter 1 0 1 0 9 5 5 2", "? wrong number of words"),
+            ("enter 1 0 4 0 9 5 5 x", "? wrong number of words"), ("enter 1 0 4 0 9 5 5 ", "? wrong number of words"),
+            ("enter 1 0 4 0 10 5 5 2 2 2", "? wrong number of words"), ("enter 1 0 4 0 10 5 5 x 2", "? not a number"),
+            ("enter 1 0 4 0 10 5 5 2 x", "? not a number"), ("enter 1 0 4 0 10 5 5 2 -", "? not a number"),
+            ("enter 1 0 4 0 10 5 5  2", "? not a number"), ("enter 1 0 4 0 10 5 5 2 ", "? not a number"),
+            ("enter 1 0 4 0 10 5 5 2,2 2", "? not a number"), (f"enter 1 0 4 0 10 5 5 {large} x", "? number too large"),
+            (f"enter 1 0 4 0 10 5 5 2 {large}", "? number too large"),
+            (f"enter 1 0 4 0 9 5 5 x {large}", "? not a number"), (f"enter 1 0 4 0 9 5 x {large} 2", "? not a number"),
             ("open x", "? not a number"), ("open ", "? not a number"), ("open -1", "? not a number"),
             ("open +1", "? not a number"), ("open 1.0", "? not a number"), ("open 1_0", "? not a number"),
             ("open \xb2", "? not a number"), ("open 1200\r", "? not a number"), ("open -", "? not a number"),
@@ -922,6 +1156,8 @@ class Protocol(OfCalls):
             (2**32, 2, "enter 2 1 5 0 5 500 {}"), (2**16, 4, "enter {} 1 5 0 5 500 500"),
             (2**16, 5, "enter 2 {} 5 0 5 500 500"), (2**8, 2, "enter 2 1 {} 0 5 500 500"),
             (2**8, 2, "enter 2 1 5 {} 5 500 500"), (2**16, 5, "withdraw {}"), (2**16, 5, "mark {} 0"),
+            (2**8, 2, "enter 2 0 1 0 600 0,9,0 9,9,9,9,9,9,9,9,9,9,9,9,9,9,9 {} 3"),
+            (2**8, 2, "enter 2 0 1 0 600 0,9,0 9,9,9,9,9,9,9,9,9,9,9,9,9,9,9 3 {}"),
             (2**8, 2, "mark 1 {}"), (2**8, 2, "report {}"),
         ):
             for value in (of_type - 1, of_type, of_type + 1, of_type + 5, 2**63, 2**64 - 1):
@@ -936,11 +1172,21 @@ class Protocol(OfCalls):
         self.asks("withdraw " + "0" * 9000 + "1", "0")
 
     def test_every_call_takes_as_many_words_as_told(self) -> None:
-        words = {name: len(readers) for name, (readers, _) in survey.CALLS.items()}
-        self.assertEqual(words, {
-            "open": 1, "enter": 7, "tank": 7, "zones": 4, "withdraw": 1, "mark": 2, "undo": 0, "redo": 0, "counts": 0,
-            "report": 1, "write": 3, "writef": 4, "read": 1, "before": 2, "spaces": 0,
-        })
+        """An entry seven or nine, by whether it says something of its ends."""
+        words = {
+            name: {len(readers), len(readers) - survey.MAY_BE_LEFT_OUT.get(name, 0)}
+            for name, (readers, _) in survey.CALLS.items()
+        }
+        told = {
+            "open": {1}, "enter": {7, 9}, "tank": {7}, "zones": {4}, "withdraw": {1}, "mark": {2}, "undo": {0},
+            "redo": {0}, "counts": {0}, "report": {1}, "write": {3}, "writef": {4}, "read": {1}, "before": {2},
+            "spaces": {0},
+        }
+        self.assertEqual(words, told)
+        for name, counts in told.items():
+            for count in range(12):
+                answer = self.given(" ".join([name, *["x"] * count]))[0]
+                self.assertEqual(answer != "? wrong number of words", count in counts, msg=(name, count))
 
     def test_command_line(self) -> None:
         given = mock.Mock(buffer=io.BytesIO(b"# \xff\nopen 1200\nspaces\n\xb2\n"))
@@ -1086,8 +1332,25 @@ class Invariants(unittest.TestCase):
         for step in self.steps:
             if step.call == "tank" and step.number is not None:
                 self.assertNotIn(step.number, (7, 8))
-                numbers = s.numbers_of_tank(step.before, step.new, *step.arguments[-3:])
-                self.assertTrue(not numbers & {7, 8} or 6 in numbers)
+                self.assertTrue(not step.numbers & {7, 8} or 6 in step.numbers)
+
+    def test_pointed_ends_have_no_area(self) -> None:
+        """An accepted U with a pointed end has no area there, and its tonnage is that of its other sections."""
+        accepted = [step for step in self.steps if step.call == "enter" and step.number == 0 and step.new.kind == U]
+        pointed = [step for step in accepted if POINTED in step.ends]
+        self.assertGreater(len(pointed), 200)
+        for step in pointed:
+            length, depths, breadths = step.arguments[4:7]
+            row = len(breadths) // len(depths)
+            for end, station in zip(step.ends, (0, len(depths) - 1)):
+                if end == POINTED:
+                    own = breadths[station * row:][:row]
+                    self.assertTrue(2 * depths[station] < 3 * (row - 1) or not any(own))
+                    depths = [0 if place == station else depth for place, depth in enumerate(depths)]
+            self.assertEqual(m.tonnage(m.volume_of_under_deck(length, depths, breadths)), step.new.tonnage)
+        for step in accepted:
+            self.assertLessEqual(set(step.ends), {1, 2, 3})
+            self.assertEqual(len(step.ends), 2)
 
     def test_new_spaces_come_last(self) -> None:
         for step in self.steps:
@@ -1122,8 +1385,8 @@ class StandardScript(unittest.TestCase):
         self.assertTrue(self.text.isascii())
         self.assertTrue(self.text.startswith("#"))
         self.assertTrue(self.text.endswith("\n"))
-        self.assertLessEqual(len(self.text), 950_000)
-        self.assertTrue(5_000 <= len(self.steps) <= 13_000, msg=len(self.steps))
+        self.assertLessEqual(len(self.text), 980_000)
+        self.assertTrue(5_000 <= len(self.steps) <= 15_000, msg=len(self.steps))
         self.assertEqual(survey.answers(self.text), "".join(step.answer + "\n" for step in self.steps))
 
     def test_reproducible(self) -> None:
@@ -1137,7 +1400,7 @@ class StandardScript(unittest.TestCase):
 
     def test_every_number_of_every_call(self) -> None:
         numbers = {
-            "open": {0, 2}, "enter": {0, 1, 2, 3, 4, 5, 6, 7, 8, 9, 10}, "tank": {0, 1, 2, 3, 4, 5, 6, 9, 10, 29},
+            "open": {0, 2}, "enter": {0, 1, 2, 3, 4, 5, 6, 7, 8, 9, 10, 19}, "tank": {0, 1, 2, 3, 4, 5, 6, 9, 10, 29},
             "zones": {0, 2, 9}, "withdraw": {0, 1, 5, 11},
             "mark": {0, 1, 2, 5, 6, 8}, "undo": {0, 1, 12}, "redo": {0, 1, 12}, "counts": {0},
             "report": {0, 1, 2, 13, 14}, "write": {0, 1, 2, 13, 14, 15}, "writef": {0, 1, 2, 13, 14, 15},
@@ -1159,18 +1422,17 @@ class StandardScript(unittest.TestCase):
         found: dict[str, set[tuple[int, int]]] = {"enter": set(), "tank": set(), "mark": set(), "report": set()}
         for call, pairs in found.items():
             for step in self.of(call):
-                if call == "enter":
-                    numbers = s.numbers_of_entry(step.before, step.new, *step.arguments[-2:])
-                elif call == "tank":
-                    numbers = s.numbers_of_tank(step.before, step.new, *step.arguments[-3:])
+                if call in ENTRIES:
+                    numbers = step.numbers
                 else:
                     of_call = s.numbers_of_mark if call == "mark" else s.numbers_of_report
                     numbers = of_call(step.before, *step.arguments)
                 self.assertEqual(min(numbers, default=0), step.number)
                 if step.before.is_open:
                     pairs |= set(combinations(sorted(numbers), 2))
-        above = {
-            2: range(3, 11), 3: range(4, 11), 4: range(5, 11), 5: [10], 6: [9, 10], 7: [8, 9, 10], 8: [9, 10], 9: [10]
+        above = {  # 19 only of a U that can be measured: never with 3, nor with what is judged of a room
+            2: [*range(3, 11), 19], 3: range(4, 11), 4: [*range(5, 11), 19], 5: [10], 6: [9, 10, 19], 7: [8, 9, 10],
+            8: [9, 10], 9: [10, 19], 10: [19],
         }
         self.assertEqual(found["enter"], {(low, high) for low, highs in above.items() for high in highs})
         above = {  # 3 only where 9 by an end and 29 aren't; 7 and 8 only in a space that is no U
@@ -1288,7 +1550,8 @@ class StandardScript(unittest.TestCase):
             between = set()
         self.assertLessEqual({
             ("report", 0), ("report", 2), ("counts", 0), ("spaces", 0), ("enter", 2), ("enter", 3), ("enter", 4),
-            ("enter", 5), ("enter", 6), ("enter", 9), ("enter", 10), ("withdraw", 5), ("mark", 2), ("mark", 5),
+            ("enter", 5), ("enter", 6), ("enter", 9), ("enter", 10), ("enter", 19), ("withdraw", 5), ("mark", 2),
+            ("mark", 5),
             ("mark", 6), ("report", 13), ("?", None), ("undo", 12), ("write", 0), ("write", 2), ("write", 15),
         }, found)
 
@@ -1386,7 +1649,7 @@ class StandardScript(unittest.TestCase):
             for place, reader in enumerate(readers, start=1):
                 if reader not in greatest:
                     continue
-                words = {word for step in self.of(call) for word in step.words[place].split(",")}
+                words = {word for step in self.of(call) for one in step.words[place:][:1] for word in one.split(",")}
                 values = {survey.number(word) for word in words - {"-"}}
                 self.assertIn(2**64 - 1, values)
                 self.assertTrue(any(greatest[reader] < value < greatest[reader] + 10**4 for value in values))
@@ -1461,6 +1724,78 @@ class StandardScript(unittest.TestCase):
         self.assertGreater(between, 100)
         self.assertTrue(any(sum(step.arguments[2:]) > step.arguments[1] for step in self.of("zones", 2)))
         self.assertTrue(any(step.arguments[0] < step.arguments[1] for step in self.of("zones", 0)))
+
+    def areas(self, step: Step) -> list[bool]:
+        """Whether the U of an entry that can be measured has area at its fore and at its aft end."""
+        return [area != 0 for area in m.areas_of_ends(*step.arguments[5:7])]
+
+    def test_pairs_of_ends_in_the_script(self) -> None:
+        """Every pair, with area at each end and without, accepted or refused by that; with m 4 and 6, in many parts."""
+        found = set()
+        for step in self.of("enter", 0, 19):
+            if step.new.kind == U:
+                found.add((*step.ends, *self.areas(step)))
+                has_area = any(end == POINTED and area for end, area in zip(step.ends, self.areas(step)))
+                self.assertEqual(step.number, 19 if has_area else 0)
+        self.assertEqual(found, set(product((1, 2, 3), (1, 2, 3), (False, True), (False, True))))
+        self.assertGreater(len(self.of("enter", 19)), 100)
+        pointed = [step for step in self.of("enter", 0) if step.new.kind == U and POINTED in step.ends]
+        self.assertGreater(len(pointed), 150)
+        for steps_of_number in (self.of("enter", 19), pointed):
+            self.assertEqual({step.new.m for step in steps_of_number}, {4, 6})
+            parts = {len(step.arguments[5]) - 1 for step in steps_of_number}
+            self.assertLessEqual({2, 4, 6, 16}, parts)
+
+    def test_edges_of_pointed_ends_in_the_script(self) -> None:
+        """The last depth that gives no area and the first that does, and one breadth alone at every place of an end."""
+        depths, places = set(), set()
+        for step in self.of("enter", 0, 19):
+            if step.new.kind == U:
+                row = step.new.m + 1
+                for end, station, name in zip(step.ends, (0, -1), ("fore", "aft")):
+                    own = step.arguments[6][:row] if name == "fore" else step.arguments[6][-row:]
+                    depth = step.arguments[5][station]
+                    if end == POINTED and all(own):
+                        depths.add((step.number, name, step.new.m, depth))
+                    if end == POINTED and sum(own) == 1:
+                        places.add((step.number, name, step.new.m, own.index(1)))
+        for name in ("fore", "aft"):
+            self.assertLessEqual({(0, name, 4, 0), (0, name, 4, 5), (0, name, 6, 6), (0, name, 6, 8)}, depths)
+            self.assertLessEqual({(19, name, 4, 6), (19, name, 4, 8), (19, name, 6, 9)}, depths)
+            for number, own_m in product((0, 19), (4, 6)):
+                self.assertLessEqual({(number, name, own_m, place) for place in range(own_m + 1)}, places)
+
+    def test_ends_of_every_kind_in_the_script(self) -> None:
+        """Left out, no end's number and pointed: of a U refused with 2, of every other kind accepted."""
+        found: dict[int, set[str]] = {kind: set() for kind in m.KINDS}
+        for step in self.of("enter"):
+            if step.number == 0 or step.number == 2 and self.only_ends_are_amiss(step):
+                ends = step.ends or ("left out",)
+                found[step.new.kind] |= {f"{step.number} {end}" for end in ends}
+        amiss = {"left out", "0", "4", "255"}
+        self.assertEqual(found[U], {"0 1", "0 2", "0 3"} | {f"2 {end}" for end in amiss | {"1", "2", "3"}})
+        for kind in (B, S, H, R):
+            self.assertEqual(found[kind], {f"0 {end}" for end in amiss | {"1", "2", "3"}})
+
+    def only_ends_are_amiss(self, step: Step) -> bool:
+        """Whether nothing but a number for an end is outside its range."""
+        return 2 not in s.numbers_of_entry(step.before, step.new, *step.arguments[5:7], INNER, INNER)
+
+    def test_pointed_ones_undone_made_again_and_read_back(self) -> None:
+        """Undo and redo behind an accepted and a refused one; one read back; one entered on a sheet that was read."""
+        found, pointed, was_read = set(), set(), False
+        for step, after in zip(self.steps, self.steps[1:]):
+            if step.call in BEGINNINGS:
+                if step.call == "read" and step.number == 0 and len(pointed & set(step.after.spaces)) > 0:
+                    found.add("read back")
+                was_read = step.call == "read"
+            if step.call == "enter" and step.number in (0, 19) and POINTED in step.ends and step.new.kind == U:
+                found.add((step.number, after.call, after.number))
+                found |= {(step.number, "on a sheet that was read")} if was_read else set()
+                pointed |= {replace(step.new, m=s.NO_M)} if step.number == 0 else set()
+        expected = {"read back", (0, "undo", 0), (19, "undo", 0), (19, "redo", 0), (19, "undo", 12)}
+        expected |= {(number, "on a sheet that was read") for number in (0, 19)}
+        self.assertLessEqual(expected | {(0, "spaces", 0), (19, "counts", 0)}, found)
 
     def test_sheets_opened_again(self) -> None:
         opened = {(step.before.is_open, bool(step.before.spaces), step.number) for step in self.of("open")}

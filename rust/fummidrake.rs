@@ -22,7 +22,8 @@ pub struct Space {
     pub length: u32,
 }
 
-/// What is entered; `within` is looked at only of a room.
+/// What is entered; `within` is looked at only of a room, `fore_end` and `aft_end` only of a U: each is 1 inner (at a step), 2 upright or
+/// 3 pointed.
 #[repr(C)]
 #[derive(Clone, Copy, Debug, Default)]
 pub struct Entry {
@@ -30,6 +31,8 @@ pub struct Entry {
     pub within: u16,
     pub kind: u8,
     pub standing: u8,
+    pub fore_end: u8,
+    pub aft_end: u8,
     pub length: u32,
 }
 
@@ -206,7 +209,8 @@ impl Sheet {
     }
 
     /// Enters a space from its offsets: for a U the depths at the stations, and the breadths station by station from the bow, at each
-    /// from above; for a B or S one height and one breadth a station; for an H or R one of each. Refused with 1 to 10.
+    /// from above; for a B or S one height and one breadth a station; for an H or R one of each. A pointed end of a U has no area: its
+    /// depth or all its breadths are 0, or its third interval of depth rounds to 0. Refused with 1 to 10, 19.
     pub fn enter(self, entry: Entry, heights: &[u32], breadths: &[u32]) -> Changed {
         // SAFETY: each pointer and its count are one slice's.
         unsafe {

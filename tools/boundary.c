@@ -53,17 +53,35 @@ static fummidrake_sheet entered(fummidrake_sheet sheet, fummidrake_entry entry, 
     return answer.sheet;
 }
 
-/* A U of the tonnage length 48 ft, a room in it that is exempt as ballast, and a hatchway. */
-static fummidrake_sheet three_spaces(void) {
-    uint32_t depths[7], breadths[35], ten = 1000;
+/* The ends of a U. */
+enum { INNER = 1, UPRIGHT, POINTED };
+
+/* The offsets of the U, a box as long as the tonnage length of 48 ft: at each of 7 stations a depth and 5 breadths. */
+typedef struct {
+    uint32_t depths[7], breadths[35];
+} offsets;
+
+static offsets box(void) {
+    offsets made;
     for (size_t i = 0; i < 7; i++)
-        depths[i] = 1200;
+        made.depths[i] = 1200;
     for (size_t i = 0; i < 35; i++)
-        breadths[i] = 2000;
+        made.breadths[i] = 2000;
+    return made;
+}
+
+static fummidrake_entry under_deck(uint8_t fore_end, uint8_t aft_end) {
+    return (fummidrake_entry){1, 0, 1, 0, fore_end, aft_end, 4800};
+}
+
+/* The U, a room in it that is exempt as ballast, and a hatchway. */
+static fummidrake_sheet three_spaces(void) {
+    offsets given = box();
+    uint32_t ten = 1000;
     fummidrake_sheet sheet = fummidrake_open(4800).sheet;
-    sheet = entered(sheet, (fummidrake_entry){1, 0, 1, 0, 4800}, depths, 7, breadths, 35);
-    sheet = entered(sheet, (fummidrake_entry){2, 1, 5, 2, 1000}, &ten, 1, &ten, 1);
-    return entered(sheet, (fummidrake_entry){3, 0, 4, 0, 500}, &ten, 1, &ten, 1);
+    sheet = entered(sheet, under_deck(UPRIGHT, UPRIGHT), given.depths, 7, given.breadths, 35);
+    sheet = entered(sheet, (fummidrake_entry){2, 1, 5, 2, 0, 0, 1000}, &ten, 1, &ten, 1);
+    return entered(sheet, (fummidrake_entry){3, 0, 4, 0, 0, 0, 500}, &ten, 1, &ten, 1);
 }
 
 static bool same_space(fummidrake_space a, fummidrake_space b) {
@@ -116,8 +134,11 @@ static void lists(void) {
             hs[i] = (uint32_t)any(any(20) ? 20001 : UINT64_C(1) << 32);
         for (size_t i = 0; i < b; i++)
             bs[i] = (uint32_t)any(any(20) ? 30001 : UINT64_C(1) << 32);
-        fummidrake_entry entry = {1, 0, (uint8_t)any(7), 0, any(2) ? 4800 : (uint32_t)any(9000)};
-        HOLDS(fummidrake_enter(sheet, entry, hs, h, bs, b).number <= 10);
+        fummidrake_entry entry = {1, 0, (uint8_t)any(7), 0, (uint8_t)any(5), (uint8_t)any(5), 4800};
+        if (any(2))
+            entry.length = (uint32_t)any(9000);
+        uint8_t number = fummidrake_enter(sheet, entry, hs, h, bs, b).number;
+        HOLDS(number <= 10 || number == 19);
     }
 }
 
@@ -166,14 +187,11 @@ static void zones(void) {
 
 /* A tank that is its whole U has the U's tonnage; in the same U read back from a file it is refused with 29. */
 static void whole_under_deck(void) {
-    uint32_t depths[7], breadths[35];
-    for (size_t i = 0; i < 7; i++)
-        depths[i] = 1200;
-    for (size_t i = 0; i < 35; i++)
-        breadths[i] = 2000;
-    fummidrake_sheet sheet = entered(fummidrake_open(4800).sheet, (fummidrake_entry){1, 0, 1, 0, 4800}, depths, 7, breadths, 35);
+    offsets given = box();
+    fummidrake_sheet sheet = fummidrake_open(4800).sheet;
+    sheet = entered(sheet, under_deck(UPRIGHT, UPRIGHT), given.depths, 7, given.breadths, 35);
     fummidrake_tank tank = {2, 1, 3, 4800, 0};
-    fummidrake_changed answer = fummidrake_enter_tank(sheet, tank, depths, 7, breadths, 35);
+    fummidrake_changed answer = fummidrake_enter_tank(sheet, tank, given.depths, 7, given.breadths, 35);
     fummidrake_space expected = sheet.spaces[0];
     expected.id = 2, expected.within = 1, expected.kind = 5, expected.standing = 3, expected.m = 0;
     HOLDS(answer.number == 0 && same_space(fummidrake_space_at(answer.sheet, 1), expected));
@@ -181,7 +199,7 @@ static void whole_under_deck(void) {
     HOLDS(fummidrake_write(sheet, 0, file, sizeof file, 0).number == 0);
     sheet = fummidrake_read(file, sizeof file).sheet;
     HOLDS(fummidrake_space_at(sheet, 0).m == 0);
-    HOLDS(fummidrake_enter_tank(sheet, tank, depths, 7, breadths, 35).number == 29);
+    HOLDS(fummidrake_enter_tank(sheet, tank, given.depths, 7, given.breadths, 35).number == 29);
 }
 
 /* Buffers and files of any length: no byte outside is touched, and none inside but those written. */
@@ -272,11 +290,77 @@ static void looks_in_place(fummidrake_sheet sheet, uint8_t justified, size_t at)
 static void in_place(void) {
     fummidrake_sheet sheet = three_spaces();
     looks_in_place(sheet, 0, 0);
-    changes_in_place(sheet, (fummidrake_entry){4, 1, 5, 0, 1000}, 0);
-    changes_in_place(sheet, (fummidrake_entry){3, 0, 4, 0, 1000}, 0);
+    changes_in_place(sheet, (fummidrake_entry){4, 1, 5, 0, 0, 0, 1000}, 0);
+    changes_in_place(sheet, (fummidrake_entry){3, 0, 4, 0, 0, 0, 1000}, 0);
     HOLDS(fummidrake_mark_on(&sheet, 2, 3) == 0 && fummidrake_withdraw_on(&sheet, 3) == 0 && fummidrake_undo_on(&sheet) == 0);
     looks_in_place(sheet, 1, 0);
-    changes_in_place(sheet, (fummidrake_entry){2, 0, 4, 0, 1000}, 1);
+    changes_in_place(sheet, (fummidrake_entry){2, 0, 4, 0, 0, 0, 1000}, 1);
+}
+
+/* The hatchway alone, with changes to undo and one to redo. */
+static fummidrake_sheet without_under_deck(void) {
+    fummidrake_sheet sheet = three_spaces();
+    HOLDS(fummidrake_withdraw_on(&sheet, 2) == 0 && fummidrake_withdraw_on(&sheet, 1) == 0);
+    HOLDS(fummidrake_mark_on(&sheet, 3, 0) == 0 && fummidrake_undo_on(&sheet) == 0);
+    return sheet;
+}
+
+/* The number that a U of these offsets and ends is answered with. Refused, the sheet is as it came; accepted, as with upright ends. */
+static uint8_t answered(const offsets *given, uint8_t fore_end, uint8_t aft_end) {
+    fummidrake_sheet sheet = without_under_deck(), left = sheet;
+    fummidrake_entry entry = under_deck(fore_end, aft_end);
+    uint8_t number = fummidrake_enter_on(&left, entry, given->depths, 7, given->breadths, 35);
+    same_in_place(number, left, fummidrake_enter(sheet, entry, given->depths, 7, given->breadths, 35));
+    if (number == 0)
+        sheet = entered(sheet, under_deck(UPRIGHT, UPRIGHT), given->depths, 7, given->breadths, 35);
+    HOLDS(same_sheet(&left, &sheet));
+    return number;
+}
+
+/* A pointed end is refused with 19 where it has area. It has none with breadths that are all 0, nor with a depth up to 5, of which the
+ * third interval rounds to 0. */
+static void pointed_ends(void) {
+    offsets given = box();
+    HOLDS(answered(&given, UPRIGHT, INNER) == 0 && answered(&given, INNER, UPRIGHT) == 0);
+    HOLDS(answered(&given, POINTED, UPRIGHT) == 19 && answered(&given, UPRIGHT, POINTED) == 19);
+    for (uint32_t depth = 0; depth < 9; depth++) {
+        given.depths[0] = depth;
+        HOLDS(answered(&given, POINTED, INNER) == (depth <= 5 ? 0 : 19) && answered(&given, POINTED, POINTED) == 19);
+    }
+    memset(given.breadths, 0, 5 * sizeof given.breadths[0]);
+    HOLDS(answered(&given, POINTED, UPRIGHT) == 0 && answered(&given, POINTED, POINTED) == 19);
+    given.depths[6] = 0;
+    HOLDS(answered(&given, POINTED, POINTED) == 0);
+}
+
+/* 19 comes after all the others: where 200 spaces stand the U is refused with 10, with one fewer by its end. */
+static void judged_last(void) {
+    offsets given = box();
+    uint32_t ten = 1000;
+    fummidrake_sheet sheet = fummidrake_open(4800).sheet;
+    for (uint16_t id = 2; id <= 201; id++)
+        sheet = entered(sheet, (fummidrake_entry){id, 0, 4, 0, 0, 0, 500}, &ten, 1, &ten, 1);
+    HOLDS(fummidrake_enter(sheet, under_deck(POINTED, UPRIGHT), given.depths, 7, given.breadths, 35).number == 10);
+    HOLDS(fummidrake_withdraw_on(&sheet, 201) == 0);
+    HOLDS(fummidrake_enter(sheet, under_deck(POINTED, UPRIGHT), given.depths, 7, given.breadths, 35).number == 19);
+}
+
+/* Any other number of an end is refused with 2; where the space is no U none is looked at. */
+static void other_ends(void) {
+    offsets given = {{0}, {0}};
+    uint32_t feet[7] = {100, 100, 100, 100, 100, 100, 100};
+    fummidrake_sheet sheet = three_spaces();
+    for (unsigned end = 0; end < 256; end++) {
+        uint8_t expected = INNER <= end && end <= POINTED ? 0 : 2;
+        HOLDS(answered(&given, (uint8_t)end, UPRIGHT) == expected && answered(&given, POINTED, (uint8_t)end) == expected);
+        for (uint8_t kind = 2; kind <= 5; kind++) {
+            fummidrake_entry entry = {9, 1, kind, 0, (uint8_t)end, (uint8_t)any(256), 500}, without = {9, 1, kind, 0, 0, 0, 500};
+            size_t stations = fummidrake_stations(kind, 4800, 500);
+            fummidrake_sheet left = entered(sheet, entry, feet, stations, feet, stations);
+            fummidrake_sheet right = entered(sheet, without, feet, stations, feet, stations);
+            HOLDS(same_sheet(&left, &right));
+        }
+    }
 }
 
 /* Every call on a sheet, whatever its bytes are: it ends, and one that isn't open is refused with 1. */
@@ -286,7 +370,8 @@ static void every_call(fummidrake_sheet sheet) {
     uint16_t id = sheet.spaces[any(200)].id;
     fummidrake_tank tank = {any(2) ? id : 9999, sheet.spaces[any(2)].id, (uint8_t)any(5), 500, (uint32_t)any(2000)};
     uint8_t numbers[] = {
-        fummidrake_enter(sheet, (fummidrake_entry){id, 1, 5, 0, 500}, &ten, 1, &ten, 1).number,
+        fummidrake_enter(sheet, (fummidrake_entry){id, 1, 5, 0, 0, 0, 500}, &ten, 1, &ten, 1).number,
+        fummidrake_enter(sheet, (fummidrake_entry){id, 0, 1, 0, POINTED, POINTED, 500}, tens, 3, tens, 15).number,
         fummidrake_enter_tank(sheet, tank, tens, 3, tens, 15).number,
         fummidrake_withdraw(sheet, id).number,
         fummidrake_mark(sheet, id, (uint8_t)any(5)).number,
@@ -299,7 +384,7 @@ static void every_call(fummidrake_sheet sheet) {
         HOLDS(unopened ? numbers[i] == 1 : (numbers[i] <= 15 || numbers[i] == 29) && numbers[i] != 1);
     HOLDS(fummidrake_standing_count(sheet) <= 200 && fummidrake_counts(sheet).undoable <= 64);
     HOLDS(same_space(fummidrake_space_at(sheet, fummidrake_standing_count(sheet)), (fummidrake_space){0}));
-    changes_in_place(sheet, (fummidrake_entry){id, 1, 5, 0, 500}, (uint8_t)any(5));
+    changes_in_place(sheet, (fummidrake_entry){id, 1, 5, 0, 0, 0, 500}, (uint8_t)any(5));
     looks_in_place(sheet, justified, any(4200));
 }
 
@@ -332,6 +417,9 @@ int main(void) {
     sections();
     zones();
     whole_under_deck();
+    pointed_ends();
+    judged_last();
+    other_ends();
     buffers();
     longest();
     any_bytes();

@@ -1,7 +1,8 @@
 /* The stack that each call takes, measured: a call is made on a stack of its own, every byte of it painted, and the lowest byte that is
  * no longer as it was painted says how far down the call went. The sheet has 200 spaces, eight deep, and 64 changes; beside it each
  * call is made on one with a space fewer, on others where changes are undone, on one whose rooms enclose one another in a ring, as no
- * call leaves them, and on one not open. Prints nothing, or the calls that take more than the header says; with -v what each takes.
+ * call leaves them, on one not open, and on one without its U. What is entered is a room, on the last the U: upright, and pointed with
+ * no area there and with some. Prints nothing, or the calls that take more than the header says; with -v what each takes.
  *
  * Run at the root of the project, after `rt staticlib fummidrake`: see `make test`. */
 #define _DEFAULT_SOURCE
@@ -13,6 +14,8 @@
 #include <ucontext.h>
 
 enum { PAINT = 0xa5, STATIONS = 17, ALL_BREADTHS = 17 * 7, DAY = 65536, LAST = DAY - (16 * 200 + 28), LENGTH = 30000 };
+/* The ends of a U. */
+enum { UPRIGHT = 2, POINTED };
 /* A tank in the U, of 16 parts; three of its stations lie between two zones. */
 enum { TANK_LENGTH = 28000, TANK_FORE = 1375, SECTIONS = STATIONS + 3, SECTION_BREADTHS = SECTIONS * 7 };
 
@@ -20,12 +23,12 @@ enum { TANK_LENGTH = 28000, TANK_FORE = 1375, SECTIONS = STATIONS + 3, SECTION_B
 typedef struct {
     fummidrake_sheet sheet;
     fummidrake_entry entry;
-    size_t heights, breadths;
+    uint32_t heights[STATIONS], breadths[ALL_BREADTHS];
+    size_t heights_count, breadths_count;
     uint16_t id;
 } input;
 
 static input given;
-static uint32_t heights[STATIONS], breadths[ALL_BREADTHS];
 static uint32_t section_depths[SECTIONS], section_breadths[SECTION_BREADTHS];
 static const fummidrake_tank tank = {9999, 2, 0, TANK_LENGTH, TANK_FORE};
 /* A day whose last sheet is the full one, and the room for another. */
@@ -51,7 +54,7 @@ static size_t size;
         number = fummidrake_##name##_on(&given.sheet __VA_ARGS__);                                                             \
     }
 
-CHANGES(enter, , given.entry, heights, given.heights, breadths, given.breadths)
+CHANGES(enter, , given.entry, given.heights, given.heights_count, given.breadths, given.breadths_count)
 CHANGES(enter_tank, , tank, section_depths, SECTIONS, section_breadths, SECTION_BREADTHS)
 CHANGES(withdraw, , given.id)
 CHANGES(mark, , given.id, 1)
@@ -204,44 +207,68 @@ static size_t taken_by(void (*made)(void)) {
 
 /* What an entry is made of: as high and as broad at every station. */
 static input entering(fummidrake_sheet sheet, fummidrake_entry entry, uint32_t height, uint32_t breadth) {
-    input made = {sheet, entry, fummidrake_stations(entry.kind, LENGTH, entry.length), 0, 1};
-    made.breadths = made.heights * fummidrake_breadths_at_station(entry.kind, height);
+    input made = {.sheet = sheet, .entry = entry, .id = 1};
+    made.heights_count = fummidrake_stations(entry.kind, LENGTH, entry.length);
+    made.breadths_count = made.heights_count * fummidrake_breadths_at_station(entry.kind, height);
     for (size_t i = 0; i < STATIONS; i++)
-        heights[i] = height;
+        made.heights[i] = height;
     for (size_t i = 0; i < ALL_BREADTHS; i++)
-        breadths[i] = breadth;
+        made.breadths[i] = breadth;
     return made;
 }
 
-static void accepted(uint8_t answered) {
-    if (answered == 0)
+static void answers(uint8_t expected, uint8_t answered) {
+    if (answered == expected)
         return;
-    printf("tools/stack.c: a call of the set-up is refused with %d\n", answered);
+    printf("tools/stack.c: a call of the set-up answers %d, not %d\n", answered, expected);
     exit(1);
+}
+
+static void accepted(uint8_t answered) {
+    answers(0, answered);
+}
+
+/* The number of the entry, by which the input's own sheet stays as it is. */
+static uint8_t number_of(input made) {
+    return fummidrake_enter_on(&made.sheet, made.entry, made.heights, made.heights_count, made.breadths, made.breadths_count);
 }
 
 /* The space with an id: a superstructure, the U, a superstructure with a chain of rooms, and in the lowest of these, 9, the others. */
 static input entering_space(fummidrake_sheet sheet, uint16_t id) {
     if (id == 2)
-        return entering(sheet, (fummidrake_entry){id, 0, 1, 0, LENGTH}, 1700, 500);
+        return entering(sheet, (fummidrake_entry){id, 0, 1, 0, UPRIGHT, UPRIGHT, LENGTH}, 1700, 500);
     if (id <= 3)
-        return entering(sheet, (fummidrake_entry){id, 0, 3, 0, 300}, 933, 1000);
+        return entering(sheet, (fummidrake_entry){id, 0, 3, 0, 0, 0, 300}, 933, 1000);
     if (id <= 9)
-        return entering(sheet, (fummidrake_entry){id, (uint16_t)(id - 1), 5, 0, 500}, 500, 1000);
-    return entering(sheet, (fummidrake_entry){id, 9, 5, 1, 100}, 100, 100);
+        return entering(sheet, (fummidrake_entry){id, (uint16_t)(id - 1), 5, 0, 0, 0, 500}, 500, 1000);
+    return entering(sheet, (fummidrake_entry){id, 9, 5, 1, 0, 0, 100}, 100, 100);
 }
 
 static fummidrake_sheet sheet_of(uint16_t count) {
     fummidrake_sheet sheet = fummidrake_open(LENGTH).sheet;
     for (uint16_t id = 1; id <= count; id++) {
         input next = entering_space(sheet, id);
-        accepted(fummidrake_enter_on(&sheet, next.entry, heights, next.heights, breadths, next.breadths));
+        accepted(fummidrake_enter_on(&sheet, next.entry, next.heights, next.heights_count, next.breadths, next.breadths_count));
     }
     return sheet;
 }
 
-enum { INPUTS = 8 };
+enum { ROOMS = 8, INPUTS = ROOMS + 3 };
 static input inputs[INPUTS];
+
+/* The U entered where it was withdrawn: upright; pointed at both ends, with no depth there; the same with area at the aft end. */
+static void set_up_under_decks(fummidrake_sheet sheet) {
+    accepted(fummidrake_withdraw_on(&sheet, 2));
+    input *upright = &inputs[ROOMS], *pointed = upright + 1, *with_area = upright + 2;
+    *upright = *pointed = entering_space(sheet, 2);
+    pointed->entry.fore_end = pointed->entry.aft_end = POINTED;
+    pointed->heights[0] = pointed->heights[STATIONS - 1] = 0;
+    *with_area = *pointed;
+    with_area->heights[STATIONS - 1] = upright->heights[STATIONS - 1];
+    accepted(number_of(*upright));
+    accepted(number_of(*pointed));
+    answers(19, number_of(*with_area));
+}
 
 static void set_up(void) {
     for (size_t i = 0; i < SECTIONS; i++)
@@ -256,11 +283,12 @@ static void set_up(void) {
     accepted(fummidrake_undo_on(&undone));
     ring.spaces[2].kind = 5;
     ring.spaces[2].within = 9;
-    fummidrake_sheet sheets[INPUTS] = {full, full, fewer, withdrawn, undone, marked, ring, closed};
-    for (size_t i = 0; i < INPUTS; i++) {
+    fummidrake_sheet sheets[ROOMS] = {full, full, fewer, withdrawn, undone, marked, ring, closed};
+    for (size_t i = 0; i < ROOMS; i++) {
         inputs[i] = entering_space(sheets[i], 200);
         inputs[i].id = i % 2 ? 200 : 1;
     }
+    set_up_under_decks(full);
     accepted(fummidrake_write_on(&full, 1, day, DAY, LAST).number);
 }
 

@@ -14,10 +14,19 @@ pub enum Kind {
     Room,
 }
 
-/// A space measured: its tonnage, and a U's parts of depth; 0 of any other.
+/// What the fore or the aft end of a U is ("Pointed bows", T-02 of document 02): inner where it is at a step.
+#[derive(Clone, Copy, PartialEq, Eq)]
+pub enum End {
+    Inner,
+    Upright,
+    Pointed,
+}
+
+/// A space measured: its tonnage, and of a U the parts of depth and the areas at its fore and aft end; 0 of any other.
 pub struct Measured {
     pub tonnage: u32,
     pub m: u8,
+    pub end_areas: [u64; 2],
 }
 
 const SHORTEST: u32 = 100;
@@ -54,6 +63,17 @@ impl Kind {
     }
 }
 
+impl End {
+    pub fn of_code(code: u8) -> Option<End> {
+        match code {
+            1 => Some(End::Inner),
+            2 => Some(End::Upright),
+            3 => Some(End::Pointed),
+            _ => None,
+        }
+    }
+}
+
 /// Whether a tonnage length is in its range.
 pub fn is_tonnage_length(length: u32) -> bool {
     (SHORTEST..=LONGEST).contains(&length)
@@ -77,12 +97,12 @@ pub fn measured(
     if breadths.len() != at_station * heights.len() {
         return Err(Refusal::NotTheNumberAsked);
     }
-    let tonnage = match kind {
+    let without_sections = |tonnage| Measured { tonnage, m: 0, end_areas: [0; 2] };
+    Ok(match kind {
         Kind::UnderDeck => under_deck(length, heights, breadths, at_station),
-        Kind::BetweenDeck | Kind::Superstructure => level(length, heights, breadths),
-        Kind::Hatchway | Kind::Room => hatchway_or_room(length, heights[0], breadths[0]),
-    };
-    Ok(Measured { tonnage, m: at_station as u8 - 1 })
+        Kind::BetweenDeck | Kind::Superstructure => without_sections(level(length, heights, breadths)),
+        Kind::Hatchway | Kind::Room => without_sections(hatchway_or_room(length, heights[0], breadths[0])),
+    })
 }
 
 /// Every height and breadth is in its range, surplus ones too; the least of a hatchway or a room is 1.
@@ -170,12 +190,13 @@ fn third_of_length(length: u32, stations: usize) -> u64 {
     nearest(10 * u64::from(length), 3 * (stations as u64 - 1))
 }
 
-fn under_deck(length: u32, depths: &[u32], breadths: &[u32], at_station: usize) -> u32 {
+fn under_deck(length: u32, depths: &[u32], breadths: &[u32], at_station: usize) -> Measured {
     let mut areas = [0; MOST_STATIONS];
     for (area, of_station) in areas.iter_mut().zip(areas_of_sections(depths, breadths, at_station)) {
         *area = of_station;
     }
-    tons_over(length, &areas[..depths.len()])
+    let aft = depths.len() - 1;
+    Measured { tonnage: tons_over(length, &areas[..=aft]), m: at_station as u8 - 1, end_areas: [areas[0], areas[aft]] }
 }
 
 /// The area of each section with its depth and breadths.

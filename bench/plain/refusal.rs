@@ -22,5 +22,6 @@ pub enum Refusal {
     NoSheet,
     WrongRecord,
     WrongSums,
+    PointedWithArea,
     NoM = 29,
 }

@@ -1,18 +1,20 @@
 //! The sheet and its changes, made in place ("The sheet and its changes").
 use super::gross::{self, Report};
 use super::history::{Change, History};
-use super::measure::{is_tonnage_length, measured, Kind, Measured};
+use super::measure::{is_tonnage_length, measured, End, Kind, Measured};
 use super::rules::{judge_tank, level_of_entry, place_to_mark, place_to_withdraw, Row, Space, Standing, PLACES};
 use super::tanks::{self, Tank};
 use super::Refusal;
 
-/// What is entered; `within` is looked at only of a room.
+/// What is entered; `within` is looked at only of a room, the ends only of a U.
 #[derive(Clone, Copy)]
 pub struct Entry {
     pub id: u16,
     pub within: u16,
     pub kind: u8,
     pub standing: u8,
+    pub fore_end: u8,
+    pub aft_end: u8,
     pub length: u32,
 }
 
@@ -57,15 +59,22 @@ impl Sheet {
         self.history.clear();
     }
 
-    /// Enters a space from its offsets; 1 to 10.
+    /// Enters a space from its offsets; 1 to 10, 19.
     pub fn enter(&mut self, entry: Entry, heights: &[u32], breadths: &[u32]) -> Result<(), Refusal> {
         self.opened()?;
         let standing = Standing::of_code(entry.standing).ok_or(Refusal::OutsideItsRange)?;
         let kind = Kind::of_code(entry.kind).ok_or(Refusal::OutsideItsRange)?;
-        let Measured { tonnage, m } = measured(kind, self.length, entry.length, heights, breadths)?;
+        let ends = [entry.fore_end, entry.aft_end].map(End::of_code);
+        if kind == Kind::UnderDeck && ends.contains(&None) {
+            return Err(Refusal::OutsideItsRange);
+        }
+        let Measured { tonnage, m, end_areas } = measured(kind, self.length, entry.length, heights, breadths)?;
         let within = if kind == Kind::Room { entry.within } else { 0 };
         let mut space = Space { id: entry.id, within, kind, standing, level: 1, m, tonnage, length: entry.length };
         space.level = level_of_entry(self.standing(), self.length, &space)?;
+        if ends.into_iter().zip(end_areas).any(|(end, area)| end == Some(End::Pointed) && area != 0) {
+            return Err(Refusal::PointedWithArea);
+        }
         self.put_last(space);
         self.history.note(Change::Entered(space));
         Ok(())

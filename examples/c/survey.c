@@ -4,6 +4,9 @@
 
 #include <stdio.h>
 
+/* An end where bow or stern is upright, as this barge's are: its section counts with the area it has. */
+enum { UPRIGHT = 2 };
+
 /* Prints the answer to a change, an undo or a redo: its number. */
 static void answered(const char *call, uint8_t number) {
     printf("%s %d\n", call, number);
@@ -35,7 +38,7 @@ static void write_into(uint8_t *file, fummidrake_sheet *sheet) {
 
 /* Enters the under-deck part: as many depths and breadths as the rules ask, at the most 17 stations with 7 breadths each. */
 static void enter_under_deck(fummidrake_sheet *sheet) {
-    fummidrake_entry under_deck = {.id = 1, .kind = 1, .length = 4800};
+    fummidrake_entry under_deck = {.id = 1, .kind = 1, .fore_end = UPRIGHT, .aft_end = UPRIGHT, .length = 4800};
     uint32_t depths[17], breadths[17 * 7];
     size_t stations = fummidrake_stations(1, 4800, 4800);
     size_t all_breadths = stations * fummidrake_breadths_at_station(1, 1200);

@@ -5,6 +5,8 @@
 #include <stdio.h>
 
 enum { LENGTH = 3600, TANK_LENGTH = 1200, TANK_FORE = 800, STATIONS = 7, SECTIONS = 4, BREADTHS = 5 };
+/* An end where bow or stern is upright, as this barge's are: its section counts with the area it has. */
+enum { UPRIGHT = 2 };
 
 /* Prints the answer to a change: its number. */
 static void answered(const char *call, uint8_t number) {
@@ -37,7 +39,7 @@ static void print_report(fummidrake_reported_on answer) {
 
 /* Enters the under-deck part: a depth and 5 breadths a station, from the bow, at each from above. */
 static void enter_under_deck(fummidrake_sheet *sheet) {
-    fummidrake_entry under_deck = {.id = 1, .kind = 1, .length = LENGTH};
+    fummidrake_entry under_deck = {.id = 1, .kind = 1, .fore_end = UPRIGHT, .aft_end = UPRIGHT, .length = LENGTH};
     uint32_t depths[STATIONS] = {1200, 1200, 1200, 1200, 1200, 1200, 1200};
     uint32_t breadths[STATIONS * BREADTHS] = {
         400,  300,  200,  100,  0,   /* station 1 */

@@ -7,6 +7,9 @@ mod fummidrake;
 use fummidrake::{breadths_at_station, list, read, stations, Changed, Entry, Reported, Sheet};
 use std::io::Write;
 
+/// An end where bow or stern is upright, as this barge's are: its section counts with the area it has.
+const UPRIGHT: u8 = 2;
+
 /// Prints the answer to a change, an undo or a redo, and hands on the sheet after it.
 fn answered(call: &str, answer: Changed) -> Sheet {
     println!("{call} {}", answer.number);
@@ -37,10 +40,10 @@ fn written(sheet: Sheet) -> [u8; 108] {
 
 /// Opens the sheet and enters its five spaces.
 fn whole_sheet() -> Sheet {
-    let under_deck = Entry { id: 1, kind: 1, length: 4800, ..Entry::default() };
+    let under_deck = Entry { id: 1, kind: 1, fore_end: UPRIGHT, aft_end: UPRIGHT, length: 4800, ..Entry::default() };
     let superstructure = Entry { id: 2, kind: 3, length: 1600, ..Entry::default() };
-    let ballast = Entry { id: 3, within: 1, kind: 5, standing: 2, length: 1000 };
-    let deducted = Entry { id: 4, within: 2, kind: 5, standing: 3, length: 800 };
+    let ballast = Entry { id: 3, within: 1, kind: 5, standing: 2, length: 1000, ..Entry::default() };
+    let deducted = Entry { id: 4, within: 2, kind: 5, standing: 3, length: 800, ..Entry::default() };
     let hatchway = Entry { id: 5, kind: 4, length: 500, ..Entry::default() };
     let depths = vec![1200; stations(1, 4800, 4800)];
     let breadths = vec![2000; depths.len() * breadths_at_station(1, 1200)];

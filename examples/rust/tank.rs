@@ -7,6 +7,8 @@ mod fummidrake;
 use fummidrake::{lay_out, read, section_station, Changed, Entry, Sheet, Tank};
 
 const LENGTH: u32 = 3600;
+/// An end where bow or stern is upright, as this barge's are: its section counts with the area it has.
+const UPRIGHT: u8 = 2;
 const TANK: Tank = Tank { id: 2, within: 1, standing: 2, length: 1200, fore: 800 };
 
 /// The breadths of the under-deck part at each station, from above.
@@ -59,7 +61,7 @@ fn print_report(sheet: Sheet) -> Sheet {
 }
 
 fn under_deck_entered(sheet: Sheet) -> Sheet {
-    let under_deck = Entry { id: 1, kind: 1, length: LENGTH, ..Entry::default() };
+    let under_deck = Entry { id: 1, kind: 1, fore_end: UPRIGHT, aft_end: UPRIGHT, length: LENGTH, ..Entry::default() };
     answered("enter", sheet.enter(under_deck, &[1200; 7], STATIONS.as_flattened()))
 }
 

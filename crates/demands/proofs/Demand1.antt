@@ -5,8 +5,9 @@
 -- refused, each of its numbers with the condition, is in specs/Refusals. Stands on Tests, Reached.
 use Prim.Native.Nat.{ℕ, _-_, _<_}
 use mathlib.Core.Path.{_≡_, refl, sym, ap, _∙_}
-use mathlib.Core.Bool.{Bool, true, false, cond, not}
-use mathlib.Core.List.{List, [], _∷_}
+use mathlib.Core.Bool.{Bool, true, false, cond, not, _||_}
+use mathlib.Core.List.{List, [], _∷_, _++_}
+use mathlib.Core.Logic.{_↔_}
 use native.Mathlib.Omega.{arith}
 use borrow.Author.Tests.{not-true, ne-eqb, eqb-true, eqb-false, le-ltb}
 use lib.Dec.{eqb, ltb, lit<}
@@ -16,6 +17,7 @@ use Rattle.measure.specs.Kinds.{kindOf}
 use Rattle.measure.specs.Ranges.{includes, tonnageLengths}
 use Rattle.measure.specs.Refusals.{firstOf}
 use Rattle.measure.specs.Offsets.{inRange, counted as rightlyCounted, measured}
+use Rattle.measure.specs.Ends.{endsOf}
 use Rattle.measure.specs.Tanks.{tankInRange, layOutNumber, laidOut}
 use Rattle.measure.proofs.laws.Refusals.{spliced}
 use Rattle.standard.specs.Rules.{entryTests}
@@ -25,7 +27,8 @@ use Rattle.standard.specs.Gross.{gross, net}
 use Rattle.spaces.specs.declared.space.Space.{Space}
 use Rattle.spaces.proofs.laws.Cases.{by-test}
 use Rattle.sheet.specs.Sheet.{standing, usable, blank}
-use Rattle.sheet.specs.Calls.{spaceOf, openedWith, entered, withdrawn, marked, undone, redone, counted, reported}
+use Rattle.sheet.specs.Ends.{pointedWithArea, PointedWithArea}
+use Rattle.sheet.specs.Calls.{spaceOf, misstated, openedWith, entered, withdrawn, marked, undone, redone, counted, reported}
 use Rattle.standard.specs.Records.{recordNumber, firstRefused}
 use Rattle.sheet.specs.Resume.{resumed}
 use Rattle.sheet.specs.declared.sheet.Sheet.{Sheet}
@@ -34,6 +37,7 @@ use Rattle.sheet.specs.declared.calls.Entry.{Entry}
 use Rattle.sheet.specs.declared.tanks.Tank.{Tank}
 use Rattle.sheet_laws.proofs.Accepted.{tank-accepted, a-room}
 use Rattle.sheet_laws.proofs.Runs.{refused-changes-nothing}
+use Rattle.sheet_laws.proofs.Ends.{pointed-with-area, nothing-else}
 use Rattle.dayfile.specs.Trailer.{sheetSize}
 use Rattle.dayfile.specs.Writing.{writeNumber, written, writtenInto}
 use Rattle.dayfile.specs.Record.{spacesOf}
@@ -46,10 +50,10 @@ use Rattle.dayfile_laws.proofs.Resumed.{is-usable}
 use Rattle.dayfile_laws.proofs.Faults.{fault-exactly}
 use Rattle.dayfile_laws.proofs.ReadWritten.{length-spaces}
 use Rattle.demands.specs.Reached.{DayCall, call, write, handedBack, numberOf, Begun, Reached}
-use Rattle.demands.specs.Tests.{FirstGiven, LowestGiven}
+use Rattle.demands.specs.Tests.{FirstGiven, Applies, LowestGiven}
 use Rattle.demands.specs.Refusals.{openTests, enterTests, enterTankTests, layOutTests, withdrawalTests, markingTests, undoTests, redoTests, lengthsShort, ballastUnjustified, reportTests, writeTests, figuresWrong, readTests, recordTests, Given17, NothingRead}
 use Rattle.demands.proofs.Reached.{begun-without-m, reached-resumable}
-use Rattle.demands.proofs.Tests.{first-given, lowest-given, either}
+use Rattle.demands.proofs.Tests.{first-given, refusal-applies, lowest-given, never-given, applies-last, either}
 
 -- ---- "is given exactly when the paper says": for any sheet and any numbers
 
@@ -68,12 +72,42 @@ enter-refused s e heights breadths =
     let l = e .length in
     let out = not (inRange k t l heights breadths) in
     let wrong = not (rightlyCounted k t l heights breadths) in
-    let rest = entryTests (s .length) (standing s) (spaceOf (s .length) e heights breadths) in
+    let rest = entryTests (s .length) (standing s) (spaceOf (s .length) e heights breadths) ++ ((pointedWithArea e (endsOf heights breadths), 19) ∷ []) in
     let same : entered s e heights breadths .number ≡ firstOf (enterTests s e heights breadths) =
     ap (λ (n : ℕ). cond (not (usable s)) 1 n)
-    (ap (λ (n : ℕ). cond (ltb 3 (e .standing)) 2 n) (spliced ((out, 2) ∷ (wrong, 3) ∷ []) rest (omega arith))
-    ∙ either (ltb 3 (e .standing)) out 2 ((wrong, 3) ∷ rest)) in
+    (ap (λ (n : ℕ). cond (misstated e) 2 n) (spliced ((out, 2) ∷ (wrong, 3) ∷ []) rest (omega arith))
+    ∙ either (misstated e) out 2 ((wrong, 3) ∷ rest)) in
     rw same (lowest-given (enterTests s e heights breadths) (omega arith))
+
+-- "19 where a pointed end has area, after all the others": exactly where none of the others applies
+pub pointed-refused : (s : Sheet) (e : Entry) (heights breadths : List ℕ)
+    → (entered s e heights breadths .number ≡ 19)
+    ↔ (PointedWithArea e (endsOf heights breadths) × ((k : ℕ) → k < 19 → Applies (enterTests s e heights breadths) k → ⊥))
+pointed-refused s e heights breadths =
+    let k = kindOf (e .kind) in
+    let x = spaceOf (s .length) e heights breadths in
+    let others : List (Bool × ℕ) =
+    (not (usable s), 1)
+    ∷ (misstated e || not (inRange k (s .length) (e .length) heights breadths), 2)
+    ∷ (not (rightlyCounted k (s .length) (e .length) heights breadths), 3)
+    ∷ entryTests (s .length) (standing s) x in
+    let given = enter-refused s e heights breadths .refused-exactly 19 (omega arith) in
+    let last = applies-last others (pointedWithArea e (endsOf heights breadths)) 19 refl in
+    let pointed = pointed-with-area e (endsOf heights breadths) in (
+      λ z. let (a, none) = given .0 z in (pointed .0 (last .0 a), none),
+      λ h. given .1 (last .1 (pointed .1 (h .0)), h .1),
+    )
+
+-- it hangs on nothing but the ends said of a U and the areas there: with these the same, and none of the others, any entry on any sheet
+-- is refused with it
+pub same-19 : (s t : Sheet) (e f : Entry) (hs bs hs' bs' : List ℕ) → e .kind ≡ f .kind → e .«fore_end» ≡ f .«fore_end» → e .«aft_end» ≡ f .«aft_end»
+    → endsOf hs bs ≡ endsOf hs' bs' → ((k : ℕ) → k < 19 → Applies (enterTests t f hs' bs') k → ⊥)
+    → entered s e hs bs .number ≡ 19 → entered t f hs' bs' .number ≡ 19
+same-19 s t e f hs bs hs' bs' kinds fores afts areas none z =
+    let (there, _) = pointed-refused s e hs bs .0 z in
+    let pointed = pointed-with-area e (endsOf hs bs) .1 there in
+    let same = ap (pointedWithArea f) (sym areas) ∙ sym (nothing-else e f (endsOf hs bs) kinds fores afts) ∙ pointed in
+    pointed-refused t f hs' bs' .1 (pointed-with-area f (endsOf hs' bs') .0 same, none)
 
 pub enter-tank-refused : (s : Sheet) (k : Tank) (depths breadths : List ℕ)
     → LowestGiven (enterTankTests s k depths breadths) (tankEntered s k depths breadths .number)
@@ -106,6 +140,11 @@ tank-never-7-or-8 {s} r k depths breadths =
     after-3 false false true d tests n over e = absurd (omega arith)
     after-3 false false false true tests n over e = absurd (omega arith)
     after-3 false false false false tests n over e = e
+
+-- "tanks have no ends to say"
+pub tank-never-19 : (s : Sheet) (k : Tank) (depths breadths : List ℕ) → tankEntered s k depths breadths .number ≡ 19 → ⊥
+tank-never-19 s k depths breadths z =
+    never-given refl (enter-tank-refused s k depths breadths .refused-exactly 19 (omega arith) .0 z .0)
 
 -- "a U that came from a file takes no tank until it is entered anew": none is accepted on a sheet just read, nor on one just opened
 pub none-at-first : {L : Hundredths} {start : List Space} {first : Sheet} → Begun L start first → (k : Tank) (depths breadths : List ℕ)
@@ -183,6 +222,15 @@ answered-number file = by-test (eqb (readNumber file) 0) (λ t. rw t (sym (eqb-t
 
 pub read-refused : (file : List ℕ) → FirstGiven (readTests file) (readOf file .number)
 read-refused file = rw (answered-number file ∙ read-number file) (first-given (readTests file) (omega arith))
+
+-- "Nothing is recorded of an end, so reading gives no 19": neither of the file nor of a record
+pub read-never-19 : (file : List ℕ) → readOf file .number ≡ 19 → ⊥
+read-never-19 file z =
+    never-given refl (refusal-applies (read-refused file .refused-exactly 19 (omega arith) .0 z))
+
+pub record-never-19 : (L : Hundredths) (before : List Space) (x : Space) → recordNumber L before x ≡ 19 → ⊥
+record-never-19 L before x z =
+    never-given refl (record-refused L before x .refused-exactly 19 (omega arith) .0 z .0)
 
 with-17 : (a b c d e : Bool) → firstOf ((a, 16) ∷ (b, 17) ∷ (c, 13) ∷ (d, 14) ∷ (e, 18) ∷ []) ≡ 17 → (a ≡ false) × (b ≡ true)
 with-17 true b c d e z = absurd (omega arith)

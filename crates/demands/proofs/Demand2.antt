@@ -7,13 +7,15 @@ use mathlib.Core.Path.{_≡_, refl, sym, ap, _∙_}
 use mathlib.Core.Bool.{false, not}
 use mathlib.Core.List.{List, [], _∷_, _++_}
 use native.Mathlib.Omega.{arith}
-use borrow.Author.Tests.{not-true, not-false, le-leb}
+use borrow.Author.Tests.{not-true, not-false, eqb-true, le-leb}
+use lib.Dec.{eqb}
 use lib.ListN.{length, take, drop}
 use Rattle.measure.specs.Kinds.{kindOf}
 use Rattle.measure.specs.Rounding.{Nearest}
 use Rattle.measure.specs.Parts.{tableParts, underDeckParts, depthParts, superstructureParts, NearestEven}
 use Rattle.measure.specs.Thirds.{thirdOfLength, thirdOfDepth}
 use Rattle.measure.specs.Multipliers.{weighted, total}
+use Rattle.measure.specs.Ends.{sectionAreas, endsOf}
 use Rattle.measure.specs.Sections.{layoutOf, doubled}
 use Rattle.measure.specs.Tanks.{taken, passesEnd, hasM, tankVolume, measuredTank}
 use Rattle.measure.specs.Volumes.{tons, areas, underDeckVolume, levelVolume, boxVolume}
@@ -27,9 +29,11 @@ use Rattle.measure_laws.proofs.Rounding.{nearest-is}
 use Rattle.measure_laws.proofs.Parts.{nearest-parts-is}
 use Rattle.measure_laws.specs.Tanks.{AnsweredTank, with-2, with-9, with-29, with-3, with-0}
 use Rattle.measure_laws.proofs.Offsets.{measured-exactly}
+use Rattle.measure_laws.proofs.Ends.{ends-are, accepted-sections, ends-weigh}
 use Rattle.measure_laws.proofs.Tanks.{measured-tank-is, measured-tank-only}
 use Rattle.spaces.specs.Row.{sumOf}
 use Rattle.spaces.specs.declared.space.Space.{Space}
+use Rattle.spaces.proofs.laws.Cases.{by-test}
 use Rattle.standard.specs.Rules.{entryNumber}
 use Rattle.standard.specs.Tanks.{underDeckWith}
 use Rattle.standard.specs.Records.{misrecorded}
@@ -51,6 +55,7 @@ use Rattle.sheet_laws.proofs.History.{stand-in-places}
 use Rattle.sheet_laws.proofs.Runs.{handed-next}
 use Rattle.sheet_laws.proofs.Resumable.{resumable-entered, entry-well-recorded, tank-well-recorded}
 use Rattle.sheet_laws.proofs.Accepted.{enter-accepted, tank-accepted, a-room}
+use Rattle.sheet_laws.proofs.Ends.{no-area}
 use Rattle.dayfile.specs.Numbers.{Bytes}
 use Rattle.dayfile.specs.Writing.{written, writtenInto}
 use Rattle.dayfile.specs.Reading.{readOf}
@@ -61,7 +66,7 @@ use Rattle.dayfile_laws.proofs.Writing.{write-accepted}
 use Rattle.dayfile_laws.proofs.WrittenRead.{has-read-back, written-anywhere}
 use Rattle.dayfile_laws.proofs.ReadWritten.{written-back}
 use Rattle.demands.specs.Reached.{Reached}
-use Rattle.demands.specs.Figures.{EnteredLast, TankEnteredLast, GrossAndNet}
+use Rattle.demands.specs.Figures.{EnteredLast, unlessPointed, PointedEnds, TankEnteredLast, GrossAndNet}
 use Rattle.demands.proofs.Reached.{reached-resumable}
 
 -- ---- third intervals and parts
@@ -178,14 +183,40 @@ pub entered-last : {s : Sheet} → Reached s → (e : Entry) (heights breadths :
 unfolding entered entryOf
 entered-last {s} r e heights breadths z =
     let x = spaceOf (s .length) e heights breadths in
-    let (offsets, taken) = enter-accepted s e heights breadths z in
+    let accepted = enter-accepted s e heights breadths z in
     record {
-      offsets-accepted = offsets;
-      stands-last = ap standing (handed-next _ s _ z) ∙ put-last r x (entry-well-recorded (s .length) e heights breadths offsets) taken;
+      offsets-accepted = accepted .offsets;
+      stands-last = ap standing (handed-next _ s _ z) ∙ put-last r x (entry-well-recorded (s .length) e heights breadths (accepted .offsets)) (accepted .number);
       with-its-tonnage = refl;
     }
 
--- and so does an accepted tank, inside its U
+-- "a pointed end must have area 0. .. Demand 2 reads with this rule": an accepted U with a pointed end has no area there, and its tonnage is
+-- that of its other sections
+pub pointed-ends : (s : Sheet) (e : Entry) (depths breadths : List ℕ) → entered s e depths breadths .number ≡ 0 → e .kind ≡ 1
+    → PointedEnds s e depths breadths
+pointed-ends s e depths breadths z u =
+    let t = s .length in
+    let l = e .length in
+    let n = underDeckParts t l in
+    let a = endsOf depths breadths in
+    let (fore, aft) = no-area s e depths breadths z u in
+    let offsets : measured 1 t l depths breadths .number ≡ 0 = rw u at (enter-accepted s e depths breadths z .offsets) in
+    let (as-many, some) = accepted-sections t l depths breadths offsets in
+    let sections = ends-are depths breadths some in
+    let weigh = ends-weigh n (sectionAreas depths breadths) a sections as-many in
+    record {
+      none-fore = fore;
+      none-aft = aft;
+      sections = sections;
+      other-sections =
+          rw (unless-pointed (e .«fore_end») (a .fore) fore, unless-pointed (e .«aft_end») (a .aft) aft, ← weigh, u)
+          (tonnage-of-U t l depths breadths offsets);
+    }
+  where
+    unless-pointed : (end area : ℕ) → (end ≡ 3 → area ≡ 0) → unlessPointed end area ≡ area
+    unless-pointed end area none = by-test (eqb end 3) (λ t. rw t (sym (none (eqb-true end 3 t)))) (λ f. rw f)
+
+-- an accepted tank is put last too, inside its U
 pub tank-entered-last : {s : Sheet} → Reached s → (k : Tank) (depths breadths : List ℕ) → tankEntered s k depths breadths .number ≡ 0
     → TankEnteredLast s k depths breadths
 unfolding tankEntered tankOf

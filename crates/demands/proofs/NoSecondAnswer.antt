@@ -34,6 +34,10 @@ pub measure-ballast-over :
     One measure.allowances.ballast_over.ended measure.allowances.ballast_over.Reads.Asked measure.allowances.ballast_over.Reads.Learnt
 measure-ballast-over _ = record { nothing-asked = tt; one-answer = agree; one-left = λ p q. refl }
 
+pub measure-end-areas :
+    One measure.ends.end_areas.ended measure.ends.end_areas.Reads.Asked measure.ends.end_areas.Reads.Learnt
+measure-end-areas _ = record { nothing-asked = tt; one-answer = agree; one-left = λ p q. refl }
+
 pub measure-kind-of :
     One measure.kinds.kind_of.ended measure.kinds.kind_of.Reads.Asked measure.kinds.kind_of.Reads.Learnt
 measure-kind-of _ = record { nothing-asked = tt; one-answer = agree; one-left = λ p q. refl }

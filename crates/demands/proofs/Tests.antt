@@ -1,15 +1,16 @@
 -- "The lowest number that applies is given", as one law over every list of numbered tests. Stands on measure_laws, Refusals.
 use Prim.Native.Nat.{ℕ, _<_, _≤_}
 use mathlib.Core.Path.{_≡_, refl}
-use mathlib.Core.Logic.{⊎-elim}
-use mathlib.Core.Bool.{Bool, true, false, _||_}
-use mathlib.Core.List.{List, [], _∷_}
+use mathlib.Core.Logic.{⊎-elim, _↔_}
+use mathlib.Core.Bool.{Bool, true, false, not, _&&_, _||_}
+use mathlib.Core.List.{List, [], _∷_, _++_}
 use native.Mathlib.Omega.{arith}
-use borrow.Author.Tests.{eqb-true, eqb-false}
+use borrow.Author.Tests.{not-true, eqb-true, eqb-false}
 use lib.Dec.{eqb}
 use Rattle.measure.specs.Refusals.{firstOf, Refuse, here, later, Accept}
 use Rattle.measure_laws.proofs.Refusals.{refused-with, accepted, judged}
 use Rattle.spaces.proofs.laws.Cases.{by-test}
+use Rattle.measure.proofs.laws.Tests.{and-left, and-right}
 use Rattle.measure.proofs.laws.Refusals.{Numbered}
 use Rattle.spaces_laws.proofs.Refusals.{none-applies}
 use Rattle.demands.specs.Tests.{FirstGiven, Applies, first, further, LowestGiven}
@@ -33,7 +34,7 @@ first-given tests numbered =
 
 -- ---- the lowest
 
-refusal-applies : {tests : List (Bool × ℕ)} {n : ℕ} → Refuse tests n → Applies tests n
+pub refusal-applies : {tests : List (Bool × ℕ)} {n : ℕ} → Refuse tests n → Applies tests n
 refusal-applies here = first
 refusal-applies (later r) = further (refusal-applies r)
 
@@ -72,6 +73,35 @@ lowest-given tests ascend =
       where
         less : (firstOf tests ≡ n → ⊥) → firstOf tests < n
         less f = omega (arith, at-most-any 0 ascend a)
+
+-- ---- one number
+
+-- no test has the number n
+abbrev pub without : ℕ → List (Bool × ℕ) → Bool
+without n [] = true
+without n (test ∷ tests) = not (eqb (test .1) n) && without n tests
+
+another : (n k : ℕ) (rest : Bool) → (not (eqb k n) && rest) ≡ true → k ≡ n → ⊥
+another n k rest e = eqb-false k n (not-true _ (and-left (not (eqb k n)) rest e))
+
+-- so it is never given
+pub never-given : {n : ℕ} {tests : List (Bool × ℕ)} → without n tests ≡ true → Applies tests n → ⊥
+never-given {n = n} none (first {tests = tests}) = another n n (without n tests) none refl
+never-given {n = n} none (further {test = test} {tests = tests} a) = never-given (and-right (not (eqb (test .1) n)) (without n tests) none) a
+
+-- and given by one test behind them exactly where that applies
+pub applies-last : (tests : List (Bool × ℕ)) (b : Bool) (n : ℕ) → without n tests ≡ true → Applies (tests ++ ((b, n) ∷ [])) n ↔ (b ≡ true)
+applies-last [] b n none = (here, λ t. rw t first)
+  where
+    here : {b : Bool} → Applies ((b, n) ∷ []) n → b ≡ true
+    here first = refl
+applies-last (test ∷ tests) b n none =
+    let others = applies-last tests b n (and-right (not (eqb (test .1) n)) (without n tests) none) in
+    (λ a. others .0 (behind (another n (test .1) (without n tests) none) a), λ t. further (others .1 t))
+  where
+    behind : {test : Bool × ℕ} {tests : List (Bool × ℕ)} → (test .1 ≡ n → ⊥) → Applies (test ∷ tests) n → Applies tests n
+    behind other first = absurd (other refl)
+    behind other (further a) = a
 
 -- ---- lists inside lists
 

@@ -1,7 +1,13 @@
 -- What an accepted entry leaves on a sheet, and how gross and net follow from the tonnages.
-use Prim.Native.Nat.{ℕ, _+_}
+use Prim.Native.Nat.{ℕ, _+_, _*_}
 use mathlib.Core.Path.{_≡_}
+use mathlib.Core.Bool.{cond}
 use mathlib.Core.List.{List, [], _∷_, _++_}
+use Rattle.measure.specs.Rounding.{Nearest}
+use Rattle.measure.specs.Parts.{underDeckParts}
+use Rattle.measure.specs.Thirds.{thirdOfLength}
+use Rattle.measure.specs.Multipliers.{weightedFrom}
+use Rattle.measure.specs.Ends.{sectionAreas, endsOf, FirstAndLast}
 use Rattle.spaces.specs.Row.{sumOf}
 use Rattle.standard.specs.Gross.{allExempt}
 use Rattle.spaces.specs.declared.space.Space.{Space}
@@ -9,6 +15,7 @@ use Rattle.spaces.specs.declared.sums.Amount.the-variants.{Deducted}
 use Rattle.spaces_laws.specs.Gross.{GrossLess}
 use Rattle.spaces_laws.specs.Tanks.{AcceptedTank}
 use Rattle.sheet.specs.Sheet.{standing}
+use Rattle.sheet.specs.Ends.{isPointed}
 use Rattle.sheet.specs.Calls.{spaceOf, measuredFor, entered}
 use Rattle.sheet.specs.Tanks.{tankMeasured, tankIn, tankEntered}
 use Rattle.sheet.specs.declared.sheet.Sheet.{Sheet}
@@ -21,7 +28,23 @@ pub record EnteredLast (s : Sheet) (e : Entry) (heights breadths : List ℕ) : T
   pub stands-last : standing (entered s e heights breadths .sheet) ≡ standing s ++ (spaceOf (s .length) e heights breadths ∷ [])
   pub with-its-tonnage : spaceOf (s .length) e heights breadths .tonnage ≡ measuredFor s e heights breadths .tonnage
 
--- an accepted tank likewise: "The result is a room directly inside that U", which has m and whose ends it doesn't pass
+-- what a section at an end adds to a volume: nothing where the end is said to be pointed
+abbrev pub unlessPointed : (end area : ℕ) → ℕ
+unlessPointed end area = cond (isPointed end) 0 area
+
+-- of an accepted U: "a pointed end must have area 0", and "its tonnage is that of its other sections"
+pub record PointedEnds (s : Sheet) (e : Entry) (depths breadths : List ℕ) : Type 0 where
+  pub none-fore : e .«fore_end» ≡ 3 → endsOf depths breadths .fore ≡ 0
+  pub none-aft : e .«aft_end» ≡ 3 → endsOf depths breadths .aft ≡ 0
+  -- its sections are those at its ends and those between
+  pub sections : FirstAndLast (sectionAreas depths breadths) (endsOf depths breadths)
+  pub other-sections : let a = endsOf depths breadths in let n = underDeckParts (s .length) (e .length) in
+      Nearest
+      ((unlessPointed (e .«fore_end») (a .fore) + weightedFrom n 2 (sections .between) + unlessPointed (e .«aft_end») (a .aft)) * thirdOfLength (e .length) n .0)
+      (100 * 100 * 1000)
+      (measuredFor s e depths breadths .tonnage)
+
+-- an accepted tank is put last in the same way: "The result is a room directly inside that U", which has m and whose ends it doesn't pass
 pub record TankEnteredLast (s : Sheet) (k : Tank) (depths breadths : List ℕ) : Type 0 where
   pub inside-its-U : AcceptedTank (s .length) (standing s) (tankIn (s .length) (standing s) k depths breadths) (k .fore)
   pub sections-accepted : tankMeasured (s .length) (standing s) k depths breadths .number ≡ 0

@@ -9,6 +9,7 @@ use Rattle.measure.specs.declared.units.Hundredths.{Hundredths}
 use Rattle.measure.specs.Kinds.{kindOf}
 use Rattle.measure.specs.Ranges.{includes, tonnageLengths}
 use Rattle.measure.specs.Offsets.{inRange, counted as rightlyCounted}
+use Rattle.measure.specs.Ends.{endsOf}
 use Rattle.measure.specs.Tanks.{tankInRange, passesEnd, lengthsFit}
 use Rattle.spaces.specs.Row.{sumOf}
 use Rattle.standard.specs.Rules.{entryTests, withdrawTests, markTests}
@@ -20,7 +21,8 @@ use Rattle.spaces.specs.declared.sums.Amount.the-variants.{Lengths}
 use Rattle.sheet.specs.Sheet.{standing, usable}
 use Rattle.sheet.specs.declared.sheet.Sheet.{Sheet}
 use Rattle.sheet.specs.declared.calls.Entry.{Entry}
-use Rattle.sheet.specs.Calls.{spaceOf}
+use Rattle.sheet.specs.Ends.{pointedWithArea}
+use Rattle.sheet.specs.Calls.{spaceOf, misstated}
 use Rattle.sheet.specs.Tanks.{tankIn, sectionsWrong}
 use Rattle.sheet.specs.declared.tanks.Tank.{Tank}
 use Rattle.dayfile.specs.Trailer.{sheetSize}
@@ -29,22 +31,24 @@ use Rattle.dayfile_laws.specs.Faults.{FirstFault, NoFault}
 
 -- ---- the rows of "Numbers of refusal" that each call can be refused with. The conditions of entryTests (4 to 10), withdrawTests
 -- (5, 11) and markTests (5, 6, 8) are defined in standard/specs/Rules, those of tankTests (4 to 10 and 29) in standard/specs/Tanks, those
--- of 16 and 17 in dayfile/specs/Reading.
+-- of a U's ends (2, 19) in sheet/specs/Ends, those of 16 and 17 in dayfile/specs/Reading.
 
 -- 2: the tonnage length is outside its range
 abbrev pub openTests : Hundredths → List (Bool × ℕ)
 openTests L = (not (includes tonnageLengths L.0), 2) ∷ []
 
--- 1; 2: its standing, its kind or a measure is outside its range; 3: its offsets are not the number the rules ask; 4 to 10
+-- 1; 2: its standing, an end of a U, its kind or a measure is outside its range; 3: its offsets are not the number the rules ask; 4 to 10;
+-- 19: "where a pointed end has area, after all the others"
 abbrev pub enterTests : Sheet → Entry → List ℕ → List ℕ → List (Bool × ℕ)
 enterTests s e heights breadths =
     let k = kindOf (e .kind) in
     let t = s .length in
     let l = e .length in
     (not (usable s), 1)
-    ∷ (ltb 3 (e .standing) || not (inRange k t l heights breadths), 2)
+    ∷ (misstated e || not (inRange k t l heights breadths), 2)
     ∷ (not (rightlyCounted k t l heights breadths), 3)
     ∷ entryTests (s .length) (standing s) (spaceOf (s .length) e heights breadths)
+    ++ ((pointedWithArea e (endsOf heights breadths), 19) ∷ [])
 
 -- 1; 2: its standing, its length, its fore end or a measure is outside its range; 3: "a section or breadth is missing or extra"; 4 to 10; 29
 abbrev pub enterTankTests : Sheet → Tank → List ℕ → List ℕ → List (Bool × ℕ)

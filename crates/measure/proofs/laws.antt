@@ -9,6 +9,7 @@ pub mod Multipliers
 pub mod Ranges
 pub mod Volumes
 pub mod Offsets
+pub mod Ends
 pub mod Zones
 pub mod Sections
 pub mod Tanks

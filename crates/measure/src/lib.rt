@@ -4,6 +4,7 @@
 // No public function asks anything of its caller: each takes any numbers and any lists, ends, and answers what its
 // definition in specs/ says. Only the functions inside the crate have a `requires`.
 pub mod allowances;
+pub mod ends;
 pub mod kinds;
 mod multipliers;
 pub mod offsets;

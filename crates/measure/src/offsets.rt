@@ -94,7 +94,7 @@ pub fn m_of(kind: Kind, heights: &[u32]) -> u8
 }
 
 // The depth at the middle station; 0 where there is none.
-fn middle_of(depths: &[u32]) -> Hundredths
+pub(crate) fn middle_of(depths: &[u32]) -> Hundredths
     ensures { λ r. ⌜ r ≡ middleOf (now (depths .entry)) ⌝ }
 {
     let at = depths.len() / 2;
@@ -105,7 +105,7 @@ fn middle_of(depths: &[u32]) -> Hundredths
 }
 
 // The kind, the tonnage length, the length and every measure are in their ranges.
-fn in_range(
+pub(crate) fn in_range(
     kind: Kind,
     tonnage_length: Hundredths,
     length: Hundredths,
@@ -130,7 +130,7 @@ fn in_range(
 }
 
 // There are as many heights and breadths as the rules ask.
-fn counted(
+pub(crate) fn counted(
     kind: Kind,
     tonnage_length: Hundredths,
     length: Hundredths,

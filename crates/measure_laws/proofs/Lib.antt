@@ -5,6 +5,8 @@ pub mod Stations
 pub mod Zones
 pub mod Refusals
 pub mod Offsets
+pub mod Ends
 pub mod Tanks
 pub mod Figures
+pub mod EndFigures
 pub mod TankFigures

@@ -1,11 +1,12 @@
--- What the definitions of specs/ mean: the parts of a text joined again, a number by its places, hex written and read back, and what a
--- line that fits leaves to its call.
-use Prim.Native.Nat.{ℕ, suc, _+_, _*_, _-_, _/_, _%_, _^_, _≤_, _<_}
+-- What the definitions of specs/ mean: the parts of a text joined again, a number by its places, hex written and read back, which form a
+-- line has, and what a line that fits leaves to its call.
+use Prim.Native.Nat.{ℕ, zero, suc, _+_, _*_, _-_, _/_, _%_, _^_, _≤_, _<_}
 use Prim.Native.Char.{code}
 use mathlib.Core.Path.{_≡_, refl, sym, ap, _∙_}
-use mathlib.Core.Bool.{Bool, true, false, cond, _||_, and-eq-true-iff}
+use mathlib.Core.Bool.{Bool, true, false, cond, _||_, and-eq-true-iff, false≢true}
 use mathlib.Core.List.{List, [], _∷_, _++_, map}
 use native.Mathlib.Nat.{add-mul, mul-assoc, zero-add, pow-succ'}
+use native.Mathlib.Numerals.{one-add}
 use native.Mathlib.Omega.{arith}
 use borrow.Author.Tests.{lt-ltb, le-ltb, le-leb, lt-leb, eq-eqb, eqb-true, ltb-true, ltb-false}
 use lib.Dec.{ltb, eqb}
@@ -13,7 +14,7 @@ use lib.ListN.{length, getD, length-map}
 use Rattle.script.specs.Words.{onFirst, partsOf, marksIn, first, behind, sameText, isDecimal, isLetter, isDigit, allDigits, valueBehind}
 use Rattle.script.specs.Words.{wordAt, measureOf, isEmptyList, numbersOf, measuresOf}
 use Rattle.script.specs.Hex.{isHex, digitValue, hexDigit, bytesOf, hexOf}
-use Rattle.script.specs.Calls.{surveyForms, figuresForms, placeOf, judgedNumbers, judgedList, judgedHex}
+use Rattle.script.specs.Calls.{surveyForms, figuresForms, isForm, placeBy, placeOf, judgedNumbers, judgedList, judgedHex}
 use Rattle.script.specs.declared.remarks.Remark.the-variants.{ListTooLong, FileTooLong, NotHex}
 use Rattle.script.specs.declared.calls.Judged.the-variants.{Fits, NoCall}
 use Rattle.script.proofs.laws.Parts.{part-at, parts-counted}
@@ -148,16 +149,78 @@ hex-written (x ∷ y ∷ rest) even e =
 
 -- ---- calls
 
--- the place of each form's name among the forms
+-- the place of each form among the forms, taken as a line
 abbrev pub placesIn : List (List ℕ) → List ℕ
-placesIn forms = map (λ (form : List ℕ). placeOf (wordAt 0 form) forms) forms
+placesIn forms = map (λ (form : List ℕ). placeOf form forms) forms
 
--- it is the form's own: a name is one call's alone
-pub each-of-survey : placesIn surveyForms ≡ 0 ∷ 1 ∷ 2 ∷ 3 ∷ 4 ∷ 5 ∷ 6 ∷ 7 ∷ 8 ∷ 9 ∷ 10 ∷ 11 ∷ 12 ∷ 13 ∷ 14 ∷ []
+-- it is the form's own: a name with so many words is one call's alone
+pub each-of-survey : placesIn surveyForms ≡ 0 ∷ 1 ∷ 2 ∷ 3 ∷ 4 ∷ 5 ∷ 6 ∷ 7 ∷ 8 ∷ 9 ∷ 10 ∷ 11 ∷ 12 ∷ 13 ∷ 14 ∷ 15 ∷ []
+unfolding placeOf
 each-of-survey = refl
 
 pub each-of-figures : placesIn figuresForms ≡ 0 ∷ 1 ∷ 2 ∷ []
+unfolding placeOf
 each-of-figures = refl
+
+-- the form at the place found is a form of the line
+pub form-found : (counted : Bool) (line : List ℕ) (forms : List (List ℕ)) → placeBy counted line forms < length forms
+    → isForm counted line (getD forms (placeBy counted line forms) []) ≡ true
+form-found counted line [] h = absurd (omega arith)
+form-found counted line (form ∷ others) h = by (isForm counted line form) refl h (form-found counted line others)
+  where
+    by : (b : Bool) → isForm counted line form ≡ b → cond b 0 (1 + placeBy counted line others) < suc (length others)
+        → (placeBy counted line others < length others → isForm counted line (getD others (placeBy counted line others) []) ≡ true)
+        → isForm counted line (getD (form ∷ others) (cond b 0 (1 + placeBy counted line others)) []) ≡ true
+    by true e l next = e
+    by false e l next = rw (one-add (placeBy counted line others)) (next (omega arith))
+
+-- and none before it is one: so where none is found, none of the forms is
+pub none-before : (counted : Bool) (line : List ℕ) (forms : List (List ℕ)) (k : ℕ) → k < placeBy counted line forms
+    → isForm counted line (getD forms k []) ≡ false
+none-before counted line [] k h = absurd (omega arith)
+none-before counted line (form ∷ others) k h = by (isForm counted line form) refl k h (none-before counted line others)
+  where
+    by : (b : Bool) → isForm counted line form ≡ b → (j : ℕ) → j < cond b 0 (1 + placeBy counted line others)
+        → ((i : ℕ) → i < placeBy counted line others → isForm counted line (getD others i []) ≡ false)
+        → isForm counted line (getD (form ∷ others) j []) ≡ false
+    by true e j l next = absurd (omega arith)
+    by false e zero l next = e
+    by false e (suc j) l next = next j (omega arith)
+
+-- the number of words is asked beside the name
+name-too : (line form : List ℕ) → isForm true line form ≡ true → isForm false line form ≡ true
+name-too line form e = rw (and-eq-true-iff (sameText (wordAt 0 form) (wordAt 0 line)) _ .0 e .0)
+
+module _ (line : List ℕ) (forms : List (List ℕ)) where
+  -- a line's place is that by its words, or there is none by them and it is that by its name
+  by-place : {P : Type 0} → (placeBy true line forms < length forms → placeOf line forms ≡ placeBy true line forms → P)
+      → (length forms ≤ placeBy true line forms → placeOf line forms ≡ placeBy false line forms → P) → P
+  unfolding placeOf
+  by-place {P} words name = by (ltb (placeBy true line forms) (length forms)) refl refl
+    where
+      by : (b : Bool) → ltb (placeBy true line forms) (length forms) ≡ b
+          → placeOf line forms ≡ cond b (placeBy true line forms) (placeBy false line forms) → P
+      by true e f = words (ltb-true _ _ e) f
+      by false e f = name (ltb-false _ _ e) f
+
+  -- where a form has the line's name and number of words, the form at the line's place is such a one
+  pub told-by-words : (k : ℕ) → k < length forms → isForm true line (getD forms k []) ≡ true
+      → (placeOf line forms < length forms) × (isForm true line (getD forms (placeOf line forms) []) ≡ true)
+  told-by-words k l e =
+      by-place
+      (λ h f. (omega arith, rw f (form-found true line forms h)))
+      (λ h f. absurd (false≢true (sym (none-before true line forms k (omega arith)) ∙ e)))
+
+  -- where the line's place is no form's, no form has its name
+  pub none-named : length forms ≤ placeOf line forms → (k : ℕ) → k < length forms → isForm false line (getD forms k []) ≡ false
+  none-named h k l = by-place (λ g f. absurd (omega arith)) (λ g f. none-before false line forms k (omega arith))
+
+  -- and where it is one's, that form has it
+  pub named : placeOf line forms < length forms → isForm false line (getD forms (placeOf line forms) []) ≡ true
+  named h =
+      by-place
+      (λ g f. rw f (name-too line (getD forms (placeBy true line forms) []) (form-found true line forms g)))
+      (λ g f. rw f (form-found false line forms (omega arith)))
 
 -- a list that fits has no more numbers than 1,024, so that all of them are laid into so many places
 pub list-fits : (list : List ℕ) → judgedList list ≡ Fits → length (measuresOf list) ≤ 1024

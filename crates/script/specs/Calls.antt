@@ -3,7 +3,7 @@
 -- Stands on: Text (ascii), Words (words, numbers, lists), Hex.
 use Prim.Native.Nat.{ℕ, _+_}
 use Prim.Native.Char.{code}
-use mathlib.Core.Bool.{Bool, true, cond}
+use mathlib.Core.Bool.{Bool, true, false, cond, not, _&&_, _||_}
 use mathlib.Core.List.{List, [], _∷_}
 use lib.Dec.{ltb, eqb}
 use lib.ListN.{length, drop, getD}
@@ -25,6 +25,7 @@ abbrev pub surveyForms : List (List ℕ)
 surveyForms =
     ascii "open number"
     ∷ ascii "enter number number number number number list list"
+    ∷ ascii "enter number number number number number list list number number"
     ∷ ascii "tank number number number number number list list"
     ∷ ascii "withdraw number"
     ∷ ascii "mark number number"
@@ -47,10 +48,21 @@ figuresForms =
     ∷ ascii "ballast number number"
     ∷ []
 
--- the place of the form with a name, from 0; as many as there are forms where none has it
-abbrev pub placeOf : List ℕ → List (List ℕ) → ℕ
-placeOf name [] = 0
-placeOf name (form ∷ others) = cond (sameText (wordAt 0 form) name) 0 (1 + placeOf name others)
+-- a form with the line's name and, where they are counted, as many words
+abbrev pub isForm : Bool → List ℕ → List ℕ → Bool
+isForm counted line form =
+    sameText (wordAt 0 form) (wordAt 0 line) && (not counted || eqb (length (wordsOf form)) (length (wordsOf line)))
+
+-- the place of the first such form, from 0; as many as there are forms where there is none
+abbrev pub placeBy : Bool → List ℕ → List (List ℕ) → ℕ
+placeBy counted line [] = 0
+placeBy counted line (form ∷ others) = cond (isForm counted line form) 0 (1 + placeBy counted line others)
+
+-- the place of a line's form: calls of one name are "told by how many words there are"; where none has as many, it is the first of the name
+unfoldable pub placeOf : List ℕ → List (List ℕ) → ℕ
+placeOf line forms =
+    let place = placeBy true line forms in
+    cond (ltb place (length forms)) place (placeBy false line forms)
 
 -- ---- the words behind a call
 
@@ -122,6 +134,6 @@ lineOf place (NoCall remark) = Remarked remark
 
 unfoldable pub lineBy : List (List ℕ) → List ℕ → Line
 lineBy forms line =
-    let place = placeOf (wordAt 0 line) forms in
+    let place = placeOf line forms in
     cond (isPassed line) Passed
     (cond (ltb place (length forms)) (lineOf place (judged (getD forms place []) line)) (Remarked UnknownCall))

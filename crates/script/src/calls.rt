@@ -6,7 +6,7 @@ use crate::words;
 use crate::words::Number;
 ghost use mathlib.Core.Path.{_≡_};
 ghost use Rattle.script.specs.Words.{partsOf};
-ghost use Rattle.script.specs.Calls.{surveyForms, figuresForms, lineBy, isPassed, placeOf, judged};
+ghost use Rattle.script.specs.Calls.{surveyForms, figuresForms, lineBy, isPassed, isForm, placeBy, placeOf, judged};
 ghost use Rattle.script.specs.Calls.{judgedNumber, judgedUpTo, judgedList, judgedHex, judgedWord};
 
 // What a line is: passed over, a call by the place of its form from 0, or no call.
@@ -37,6 +37,7 @@ pub fn survey_line(line: &[u8]) -> Line
     line_by(
         b"open number\n\
           enter number number number number number list list\n\
+          enter number number number number number list list number number\n\
           tank number number number number number list list\n\
           withdraw number\n\
           mark number number\n\
@@ -73,7 +74,7 @@ fn line_by(forms: &[u8], line: &[u8]) -> Line
     if is_passed(line) {
         return Line::Passed;
     }
-    let place = place_of(forms, words::word(line, 0));
+    let place = place_of(forms, line);
     if words::marks(forms, b'\n') < place {
         return Line::Remarked(Remark::UnknownCall);
     }
@@ -94,21 +95,45 @@ fn is_passed(line: &[u8]) -> bool
     line[0] == b'#'
 }
 
-// The place of the form with a name; as many as there are forms where none has it.
-fn place_of(forms: &[u8], name: &[u8]) -> usize
-    ensures { λ r. ⌜ r ≡ placeOf (now (name .entry)) (partsOf 10 (now (forms .entry))) ⌝ }
+// Whether a form has the line's name and, where they are counted, as many words.
+fn is_form(form: &[u8], line: &[u8], counted: bool) -> bool
+    ensures { λ r. ⌜ r ≡ isForm counted (now (line .entry)) (now (form .entry)) ⌝ }
+{
+    if !words::same(words::word(form, 0), words::word(line, 0)) {
+        return false;
+    }
+    if !counted {
+        return true;
+    }
+    words::marks(form, b' ') == words::marks(line, b' ')
+}
+
+// The place of the first such form; as many as there are forms where there is none.
+fn place_by(forms: &[u8], line: &[u8], counted: bool) -> usize
+    ensures { λ r. ⌜ r ≡ placeBy counted (now (line .entry)) (partsOf 10 (now (forms .entry))) ⌝ }
 {
     let mut place = 0;
     let mut at = 0;
     while at <= forms.len() {
         let form = words::part_at(forms, at, b'\n');
-        if words::same(words::word(form, 0), name) {
+        if is_form(form, line, counted) {
             return place;
         }
         place += 1;
         at += form.len() + 1;
     }
     place
+}
+
+// The place of a line's form, told by how many words there are; where none of the name has as many, it is the first of the name.
+fn place_of(forms: &[u8], line: &[u8]) -> usize
+    ensures { λ r. ⌜ r ≡ placeOf (now (line .entry)) (partsOf 10 (now (forms .entry))) ⌝ }
+{
+    let place = place_by(forms, line, true);
+    if place <= words::marks(forms, b'\n') {
+        return place;
+    }
+    place_by(forms, line, false)
 }
 
 // The words of a line, by the form of its call.

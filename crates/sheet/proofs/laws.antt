@@ -3,4 +3,5 @@ pub mod Row
 pub mod Changes
 pub mod Sheet
 pub mod Calls
+pub mod Ends
 pub mod Report

@@ -1,7 +1,7 @@
 -- What each call on a sheet answers.
 use Prim.Native.Nat.{ℕ, _+_, _-_}
-use mathlib.Core.Bool.{true, false, cond, not, _&&_}
-use mathlib.Core.List.{List, [], _∷_}
+use mathlib.Core.Bool.{Bool, true, false, cond, not, _&&_, _||_}
+use mathlib.Core.List.{List, [], _∷_, _++_}
 use lib.Dec.{eqb, ltb}
 use lib.ListN.{getD}
 use Rattle.measure.specs.Ranges.{includes, tonnageLengths}
@@ -9,6 +9,7 @@ use Rattle.measure.specs.Refusals.{firstOf}
 use Rattle.measure.specs.Volumes.{hundredths}
 use Rattle.measure.specs.Kinds.{kindOf}
 use Rattle.measure.specs.Offsets.{mOf, measured}
+use Rattle.measure.specs.Ends.{endsOf}
 use Rattle.measure.specs.declared.units.Hundredths.{Hundredths}
 use Rattle.measure.specs.declared.offsets.Measured.{Measured}
 use Rattle.spaces.specs.Row.{find, placeOf, spaceWith, sumOf}
@@ -18,6 +19,7 @@ use Rattle.spaces.specs.declared.space.Space.{Space}
 use Rattle.spaces.specs.declared.sums.Amount.the-variants.{Lengths}
 use Rattle.sheet.specs.Sheet.{standing, usable, changeOf, noChange, blank}
 use Rattle.sheet.specs.Changes.{made, takenBack, withChanges, noted}
+use Rattle.sheet.specs.Ends.{endsFit, pointedWithArea}
 use Rattle.sheet.specs.declared.changes.Change.{Change}
 use Rattle.sheet.specs.declared.changes.Change.the-variants.{Entered, Withdrawn, Marked}
 use Rattle.sheet.specs.declared.sheet.Sheet.{Sheet}
@@ -64,15 +66,21 @@ spaceOf L e heights breadths =
 abbrev pub measuredFor : Sheet → Entry → List ℕ → List ℕ → Measured
 measuredFor s e heights breadths = measured (e .kind) (s .length) (e .length) heights breadths
 
+-- 2 by what it says beside its measures: "Standing 0 to 3", and of a U its ends
+abbrev pub misstated : Entry → Bool
+misstated e = ltb 3 (e .standing) || not (endsFit e)
+
 abbrev pub enterNumber : Sheet → Entry → List ℕ → List ℕ → ℕ
 enterNumber s e heights breadths =
     let m = measuredFor s e heights breadths in
     firstOf
-    -- 1: sheet not open; 2: standing outside its range; 2 or 3, as its offsets are judged; then 4 to 10
+    -- 1: sheet not open; 2: standing or an end outside its range; 2 or 3, as its offsets are judged; then 4 to 10; and 19, "after all the
+    -- others"
     ((not (usable s), 1)
-    ∷ (ltb 3 (e .standing), 2)
+    ∷ (misstated e, 2)
     ∷ (not (eqb (m .number) 0), m .number)
-    ∷ entryTests (s .length) (standing s) (spaceOf (s .length) e heights breadths))
+    ∷ entryTests (s .length) (standing s) (spaceOf (s .length) e heights breadths)
+    ++ ((pointedWithArea e (endsOf heights breadths), 19) ∷ []))
 
 unfoldable pub entered : Sheet → Entry → List ℕ → List ℕ → Changed
 entered s e heights breadths =

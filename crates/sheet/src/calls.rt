@@ -21,15 +21,17 @@ use standard::rules::withdraw_ruling;
 ghost use mathlib.Core.Path.{_≡_};
 ghost use mathlib.Core.Bool.{_&&_};
 ghost use lib.Dec.{eqb};
-ghost use Rattle.sheet.specs.Calls.{openedWith, entered, withdrawn, marked, undone, redone, counted, reported, entryOf};
+ghost use Rattle.sheet.specs.Calls.{openedWith, misstated as misstatedOf, entryOf, entered, withdrawn, marked, undone, redone, counted, reported};
 
-// What is entered: the enclosing id is looked at only of a room.
+// What is entered: the enclosing id is looked at only of a room, and the ends only of a U: 1 inner (at a step), 2 upright, 3 pointed.
 #[repr(C)]
 pub struct Entry {
     pub id: u16,
     pub within: u16,
     pub kind: u8,
     pub standing: u8,
+    pub fore_end: u8,
+    pub aft_end: u8,
     pub length: Hundredths,
 }
 
@@ -56,6 +58,16 @@ pub struct Reported {
 }
 
 impl Entry {
+    // 2 by what it says beside its measures: its standing, and of a U its ends.
+    fn misstated(self) -> bool
+        ensures { λ r. ⌜ r ≡ misstatedOf self ⌝ }
+    {
+        if 3 < self.standing {
+            return true;
+        }
+        !self.ends_fit()
+    }
+
     // The record of an entry, with its m and its tonnage.
     fn space(self, m: u8, tonnage: u32) -> Space
         ensures { λ r. ⌜ r ≡ entryOf self m tonnage ⌝ }
@@ -104,15 +116,14 @@ impl Sheet {
                 sheet: self,
             };
         }
-        if 3 < entry.standing {
+        if entry.misstated() {
             return Changed {
                 number: OUTSIDE_ITS_RANGE,
                 sheet: self,
             };
         }
         let whole = self.length;
-        let own = entry.length;
-        let measured = measure_offsets(entry.kind, whole, own, heights, breadths);
+        let measured = measure_offsets(entry.kind, whole, entry.length, heights, breadths);
         if measured.number != 0 {
             return Changed {
                 number: measured.number,
@@ -121,7 +132,8 @@ impl Sheet {
         }
         let x = entry.space(m_of(kind_of(entry.kind), heights), measured.tonnage);
         let spaces = self.spaces;
-        let number = entry_number(spaces, self.count, self.length, x);
+        let ruled = entry_number(spaces, self.count, whole, x);
+        let number = entry.judged_by_ends(ruled, whole, heights, breadths);
         if number != 0 {
             return Changed {
                 number,

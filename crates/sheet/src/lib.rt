@@ -5,6 +5,7 @@
 // definition in specs/ says. A sheet that no call handed back is answered as one not open, or within its own places.
 mod calls;
 mod changes;
+mod ends;
 pub mod refusals;
 mod resume;
 mod row;

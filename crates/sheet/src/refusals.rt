@@ -11,3 +11,6 @@ pub const LENGTHS_SHORT: u8 = 13;
 
 // Ballast over 30%, not justified.
 pub const NOT_JUSTIFIED: u8 = 14;
+
+// A pointed end has area (T-02).
+pub const POINTED_WITH_AREA: u8 = 19;

@@ -1,50 +1,66 @@
 -- The paper's rules: an accepted entry, withdrawal and mark fit the spaces that they were accepted on. Stands on Changes, Resumable,
 -- Runs.
 use Prim.Native.Nat.{ℕ}
-use mathlib.Core.Path.{_≡_, refl, sym, ap, _∙_}
-use mathlib.Core.Bool.{true, false, not}
+use mathlib.Core.Path.{_≡_, refl, _∙_}
+use mathlib.Core.Bool.{Bool, true, false, not}
 use mathlib.Core.List.{List, [], _∷_, _++_}
 use native.Mathlib.Omega.{arith}
-use borrow.Author.Tests.{not-false, eqb-true, eqb-false}
+use borrow.Author.Tests.{not-false}
 use lib.Dec.{eqb, ltb}
 use Rattle.measure.specs.declared.units.Hundredths.{Hundredths}
+use Rattle.measure.specs.Refusals.{firstOf}
+use Rattle.measure.specs.Ends.{endsOf}
+use Rattle.measure.proofs.laws.Refusals.{spliced}
 use Rattle.spaces.specs.Space.{isRoom}
 use Rattle.spaces.specs.declared.space.Space.{Space}
 use Rattle.standard.specs.Rules.{entryTests, entryNumber, withdrawTests, withdrawNumber, markTests, markNumber}
 use Rattle.standard.specs.Tanks.{tankTests, tankNumber}
 use Rattle.measure.specs.Tanks.{tankInRange}
-use Rattle.spaces.proofs.laws.Cases.{by-test}
 use Rattle.spaces_laws.proofs.Valid.{valid-is-sound}
 use Rattle.spaces_laws.specs.Changes.{without, marked as markedById}
 use Rattle.spaces_laws.proofs.Withdraw.{facts-of-withdrawal}
 use Rattle.spaces_laws.proofs.Mark.{facts-of-mark}
 use Rattle.spaces_laws.proofs.Tanks.{tank-is-room}
 use Rattle.sheet.specs.Sheet.{standing, usable}
-use Rattle.sheet.specs.Calls.{spaceOf, measuredFor, entered, withdrawn, marked}
+use Rattle.sheet.specs.Ends.{pointedWithArea}
+use Rattle.sheet.specs.Calls.{spaceOf, measuredFor, misstated, entered, withdrawn, marked}
 use Rattle.sheet.specs.Tanks.{tankOf, tankIn, sectionsWrong, tankEntered}
 use Rattle.sheet.specs.declared.sheet.Sheet.{Sheet}
 use Rattle.sheet.specs.declared.calls.Entry.{Entry}
 use Rattle.sheet.specs.declared.tanks.Tank.{Tank}
-use Rattle.sheet.proofs.laws.Calls.{applies, passes, passed}
+use Rattle.sheet.proofs.laws.Calls.{passed, after-call}
 use Rattle.sheet_laws.specs.Run.{spaceEntered, tankGiven}
 use Rattle.sheet_laws.specs.Resumable.{Resumable}
 use Rattle.sheet_laws.proofs.Runs.{Rules}
 use Rattle.sheet_laws.proofs.Changes.{entry-leads, withdrawal-leads, mark-leads}
 use Rattle.sheet_laws.proofs.Resumable.{resumable-entered, resumable-withdrawn, resumable-marked, entry-well-recorded, tank-well-recorded}
 
--- ---- what the number 0 says: none of 1 to 3 applied, and none of the rules of what stands
+-- ---- what the number 0 says: none of 1 to 3 applied, none of the rules of what stands, and no pointed end has area
 
-pub enter-accepted : (s : Sheet) (e : Entry) (hs bs : List ℕ) → entered s e hs bs .number ≡ 0
-    → (measuredFor s e hs bs .number ≡ 0) × (entryNumber (s .length) (standing s) (spaceOf (s .length) e hs bs) ≡ 0)
+pub record EntryAccepted (s : Sheet) (e : Entry) (hs bs : List ℕ) : Type 0 where
+  pub is-open : usable s ≡ true
+  pub well-said : misstated e ≡ false
+  pub offsets : measuredFor s e hs bs .number ≡ 0
+  pub number : entryNumber (s .length) (standing s) (spaceOf (s .length) e hs bs) ≡ 0
+  pub without-area : pointedWithArea e (endsOf hs bs) ≡ false
+
+pub enter-accepted : (s : Sheet) (e : Entry) (hs bs : List ℕ) → entered s e hs bs .number ≡ 0 → EntryAccepted s e hs bs
 unfolding entered entryNumber
 enter-accepted s e hs bs z =
     let n = measuredFor s e hs bs .number in
-    let tests = entryTests (s .length) (standing s) (spaceOf (s .length) e hs bs) in
-    let one = passed (not (usable s)) 1 ((ltb 3 (e .standing), 2) ∷ (not (eqb n 0), n) ∷ tests) z (λ w. omega arith) in
-    let two = passed (ltb 3 (e .standing)) 2 ((not (eqb n 0), n) ∷ tests) (one .1) (λ w. omega arith) in
-    by-test (eqb n 0)
-    (λ t. (eqb-true _ _ t, sym (passes (not (eqb n 0)) n tests (ap not t)) ∙ two .1))
-    (λ f. absurd (eqb-false _ _ f (sym (applies (not (eqb n 0)) n tests (ap not f)) ∙ two .1)))
+    let rules = entryTests (s .length) (standing s) (spaceOf (s .length) e hs bs) in
+    let ends : List (Bool × ℕ) = (pointedWithArea e (endsOf hs bs), 19) ∷ [] in
+    let one = passed (not (usable s)) 1 ((misstated e, 2) ∷ (not (eqb n 0), n) ∷ rules ++ ends) z (λ w. omega arith) in
+    let two = passed (misstated e) 2 ((not (eqb n 0), n) ∷ rules ++ ends) (one .1) (λ w. omega arith) in
+    let measures = after-call n (rules ++ ends) (two .1) in
+    let ruled = after-call (firstOf rules) ends (spliced rules ends (omega arith) ∙ measures .1) in
+    record {
+      is-open = not-false _ (one .0);
+      well-said = two .0;
+      offsets = measures .0;
+      number = ruled .0;
+      without-area = passed (pointedWithArea e (endsOf hs bs)) 19 [] (ruled .1) (λ w. omega arith) .0;
+    }
 
 -- of a tank: its measures are in range, its sections and breadths are not wrong, and none of the rules of what stands applies
 pub record TankAccepted (s : Sheet) (k : Tank) (ds bs : List ℕ) : Type 0 where
@@ -85,10 +101,10 @@ paper-rules =
       at-most-200 = λ L xs r. valid-is-sound (r .valid) .at-most-200;
       entry-fits = λ s e hs bs r z.
           let x = spaceOf (s .length) e hs bs in
-          let (measures, entry) = enter-accepted s e hs bs z in
+          let a = enter-accepted s e hs bs z in
           record {
             then = standing s ++ (x ∷ []);
-            allowed = resumable-entered x r (entry-well-recorded (s .length) e hs bs measures) entry;
+            allowed = resumable-entered x r (entry-well-recorded (s .length) e hs bs (a .offsets)) (a .number);
             leads = entry-leads x (spaceEntered x) (standing s) refl;
           };
       tank-fits = λ s k ds bs r z.

@@ -1,4 +1,4 @@
--- The starred figures, and any run of calls. Read from top to bottom.
+-- The starred figures, any run of calls, and the ends of a U. Read from top to bottom.
 pub mod Figures
 pub mod Undoable
 pub mod History
@@ -7,3 +7,5 @@ pub mod Changes
 pub mod Resumable
 pub mod Accepted
 pub mod AnyRun
+pub mod Ends
+pub mod EndFigures

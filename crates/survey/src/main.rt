@@ -22,29 +22,31 @@ const OPEN: usize = 0;
 
 const ENTER: usize = 1;
 
-const ENTER_TANK: usize = 2;
+const ENTER_WITH_ENDS: usize = 2;
 
-const WITHDRAW: usize = 3;
+const ENTER_TANK: usize = 3;
 
-const MARK: usize = 4;
+const WITHDRAW: usize = 4;
 
-const UNDO: usize = 5;
+const MARK: usize = 5;
 
-const REDO: usize = 6;
+const UNDO: usize = 6;
 
-const COUNTS: usize = 7;
+const REDO: usize = 7;
 
-const REPORT: usize = 8;
+const COUNTS: usize = 8;
 
-const WRITE: usize = 9;
+const REPORT: usize = 9;
 
-const WRITE_FILLED: usize = 10;
+const WRITE: usize = 10;
 
-const READ: usize = 11;
+const WRITE_FILLED: usize = 11;
 
-const READ_BEFORE: usize = 12;
+const READ: usize = 12;
 
-const ZONES: usize = 13;
+const READ_BEFORE: usize = 13;
+
+const ZONES: usize = 14;
 
 fn main() {
     let mut script = text::script_buffer();
@@ -80,16 +82,30 @@ fn answer_line(sheet: Sheet, line: &[u8]) -> Sheet {
     }
 }
 
-// Makes a call with the words of its line.
+// Makes a call with the words of its line: those up to `redo` answer a number alone.
 fn make(sheet: Sheet, line: &[u8], call: usize) -> Sheet {
+    if call <= REDO {
+        return answers::changed(change(sheet, line, call));
+    }
+    ask(sheet, line, call)
+}
+
+// Opens a sheet, makes a change, takes one back or makes it again.
+fn change(sheet: Sheet, line: &[u8], call: usize) -> Changed {
     match call {
-        OPEN => answers::changed(Sheet::open(Hundredths(words::measure_in(words::word(line, 1))))),
-        ENTER => answers::changed(enter(sheet, line, false)),
-        ENTER_TANK => answers::changed(enter(sheet, line, true)),
-        WITHDRAW => answers::changed(sheet.withdraw(words::id_in(words::word(line, 1)))),
-        MARK => answers::changed(mark(sheet, line)),
-        UNDO => answers::changed(sheet.undo()),
-        REDO => answers::changed(sheet.redo()),
+        OPEN => Sheet::open(Hundredths(words::measure_in(words::word(line, 1)))),
+        ENTER | ENTER_WITH_ENDS => enter(sheet, line, false),
+        ENTER_TANK => enter(sheet, line, true),
+        WITHDRAW => sheet.withdraw(words::id_in(words::word(line, 1))),
+        MARK => mark(sheet, line),
+        UNDO => sheet.undo(),
+        _ => sheet.redo(),
+    }
+}
+
+// Tells of the sheet, writes it or reads another.
+fn ask(sheet: Sheet, line: &[u8], call: usize) -> Sheet {
+    match call {
         COUNTS => answers::counted(sheet.counts()),
         REPORT => answers::reported(sheet.report(words::code_in(words::word(line, 1)))),
         WRITE => write(sheet, line, 0),
@@ -157,17 +173,22 @@ fn enter_from(
     sheet.enter(entry(line), heights, breadths)
 }
 
+// Ends that are left out are 0.
 fn entry(line: &[u8]) -> Entry {
     let id = words::id_in(words::word(line, 1));
     let within = words::id_in(words::word(line, 2));
     let kind = words::code_in(words::word(line, 3));
     let standing = words::code_in(words::word(line, 4));
     let length = words::measure_in(words::word(line, 5));
+    let fore_end = words::code_in(words::word(line, 8));
+    let aft_end = words::code_in(words::word(line, 9));
     Entry {
         id,
         within,
         kind,
         standing,
+        fore_end,
+        aft_end,
         length: Hundredths(length),
     }
 }

@@ -1,18 +1,19 @@
 -- What offsets of which neither 2 nor 3 applies are: in range and of the right number, as the functions inside the crate ask it.
 use mathlib.Core.Path.{_≡_, refl, _∙_}
-use mathlib.Core.Bool.{_&&_}
-use mathlib.Core.List.{List}
+use mathlib.Core.Bool.{Bool, true, false, not, _&&_}
+use mathlib.Core.List.{List, [], _∷_}
 use Prim.Native.Nat.{ℕ, _+_, _*_, _≤_}
 use native.Mathlib.Omega.{arith}
 use borrow.Author.Tests.{eqb-true}
 use lib.Dec.{eqb, lit≤}
 use lib.ListN.{length}
-use Rattle.measure.specs.Kinds.{isKind}
+use Rattle.measure.specs.Kinds.{kindOf, isKind}
 use Rattle.measure.specs.Rounding.{nearest}
 use Rattle.measure.specs.Parts.{EvenParts, partsOf, underDeckParts, depthParts}
 use Rattle.measure.specs.Volumes.{tons}
 use Rattle.measure.specs.Ranges.{includes, includesAll, tonnageLengths, lengths, heights, breadths}
-use Rattle.measure.specs.Offsets.{inRange, stations, breadthsAtStation, middleOf, counted, tonnage}
+use Rattle.measure.specs.Refusals.{firstOf}
+use Rattle.measure.specs.Offsets.{inRange, stations, breadthsAtStation, middleOf, counted, tonnage, measured}
 use Rattle.measure.specs.Handed.{AllAtMost, UnderDeckHanded, LevelHanded, BoxHanded, Taken, mostTons}
 use Rattle.measure.specs.declared.units.Hundredths.{Hundredths}
 use Rattle.measure.specs.declared.kinds.Kind.{Kind}
@@ -21,6 +22,17 @@ use Rattle.measure.proofs.laws.Tests.{and-left, and-right}
 use Rattle.measure.proofs.laws.Parts.{most, table-even, under-deck-even, superstructure-even, depth-even}
 use Rattle.measure.proofs.laws.Ranges.{includes-most, all-at-most}
 use Rattle.measure.proofs.laws.Volumes.{under-deck-tons-le, level-tons-le, box-tons-le}
+
+-- accepted offsets are such
+pub accepted-taken : (code : ℕ) (t l : Hundredths) (hs bs : List ℕ) → measured code t l hs bs .number ≡ 0 → Taken (kindOf code) t l hs bs
+unfolding measured
+accepted-taken code t l hs bs = by (inRange (kindOf code) t l hs bs) refl (counted (kindOf code) t l hs bs) refl
+  where
+    by : (ranged : Bool) → inRange (kindOf code) t l hs bs ≡ ranged → (numbered : Bool) → counted (kindOf code) t l hs bs ≡ numbered
+        → firstOf ((not ranged, 2) ∷ (not numbered, 3) ∷ []) ≡ 0 → Taken (kindOf code) t l hs bs
+    by true r true n z = record { ranged = r; numbered = n }
+    by true r false n z = absurd (omega arith)
+    by false r numbered n z = absurd (omega arith)
 
 pub breadths-at-station-le : (k : Kind) (middle : Hundredths) → breadthsAtStation k middle ≤ 17
 breadths-at-station-le UnderDeck middle = omega (arith, most (depth-even middle))

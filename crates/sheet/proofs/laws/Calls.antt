@@ -2,9 +2,9 @@
 use mathlib.Core.Path.{_≡_, refl, sym, ap, _∙_}
 use mathlib.Core.Bool.{Bool, true, false, cond, not}
 use mathlib.Core.List.{List, _∷_}
-use Prim.Native.Nat.{ℕ, _≤_, _<_}
-use borrow.Author.Tests.{ne-eqb, eqb-true, eqb-false, lt-ltb, le-ltb}
-use lib.Dec.{eqb, leb, ltb}
+use Prim.Native.Nat.{ℕ}
+use borrow.Author.Tests.{ne-eqb, eqb-true, eqb-false}
+use lib.Dec.{eqb, leb}
 use lib.ListN.{length}
 use Rattle.measure.specs.Refusals.{firstOf}
 use Rattle.spaces.specs.declared.space.Space.{Space}
@@ -44,27 +44,26 @@ not-open s tests e = applies (not (usable s)) 1 tests (ap not e)
 pub is-open : (s : Sheet) (tests : List (Bool × ℕ)) → usable s ≡ true → firstOf ((not (usable s), 1) ∷ tests) ≡ firstOf tests
 is-open s tests e = passes (not (usable s)) 1 tests (ap not e)
 
--- of an open sheet 2, where the standing is outside its range, and else what the others give
-standing-outside : (s : Sheet) (standing : ℕ) (tests : List (Bool × ℕ)) → usable s ≡ true → 3 < standing
-    → firstOf ((not (usable s), 1) ∷ (ltb 3 standing, 2) ∷ tests) ≡ 2
-standing-outside s standing tests on h = is-open s ((ltb 3 standing, 2) ∷ tests) on ∙ applies (ltb 3 standing) 2 tests (lt-ltb 3 standing h)
+-- of an open sheet 2, where what is said is outside its range, and else what the others give
+outside : (s : Sheet) (out : Bool) (tests : List (Bool × ℕ)) → usable s ≡ true → out ≡ true → firstOf ((not (usable s), 1) ∷ (out, 2) ∷ tests) ≡ 2
+outside s out tests on e = is-open s ((out, 2) ∷ tests) on ∙ applies out 2 tests e
 
-pub standing-within : (s : Sheet) (standing : ℕ) (tests : List (Bool × ℕ)) → usable s ≡ true → standing ≤ 3
-    → firstOf ((not (usable s), 1) ∷ (ltb 3 standing, 2) ∷ tests) ≡ firstOf tests
-standing-within s standing tests on h = is-open s ((ltb 3 standing, 2) ∷ tests) on ∙ passes (ltb 3 standing) 2 tests (le-ltb 3 standing h)
+pub within : (s : Sheet) (out : Bool) (tests : List (Bool × ℕ)) → usable s ≡ true → out ≡ false
+    → firstOf ((not (usable s), 1) ∷ (out, 2) ∷ tests) ≡ firstOf tests
+within s out tests on e = is-open s ((out, 2) ∷ tests) on ∙ passes out 2 tests e
 
 -- a number that isn't 0 is answered with the sheet as it came
 pub refused : (k : ℕ) (s next : Sheet) → (k ≡ 0 → ⊥) → _≡_ {A = Changed} (record { number = k; sheet = s }) (answered k s next)
 refused k s next h = ap (λ (t : Bool). record { number = k; sheet = cond t next s }) (sym (ne-eqb k 0 h))
 
--- 1 of a sheet that isn't usable, and 2 where a standing is outside its range, so too
+-- 1 of a sheet that isn't usable, and 2 where what is said is outside its range, so too
 pub answered-1 : (s next : Sheet) (tests : List (Bool × ℕ)) → usable s ≡ false
     → _≡_ {A = Changed} (record { number = 1; sheet = s }) (answered (firstOf ((not (usable s), 1) ∷ tests)) s next)
 answered-1 s next tests off = ap (λ (k : ℕ). answered k s next) (sym (not-open s tests off))
 
-pub answered-2 : (s next : Sheet) (standing : ℕ) (tests : List (Bool × ℕ)) → usable s ≡ true → 3 < standing
-    → _≡_ {A = Changed} (record { number = 2; sheet = s }) (answered (firstOf ((not (usable s), 1) ∷ (ltb 3 standing, 2) ∷ tests)) s next)
-answered-2 s next standing tests on h = ap (λ (k : ℕ). answered k s next) (sym (standing-outside s standing tests on h))
+pub answered-2 : (s next : Sheet) (out : Bool) (tests : List (Bool × ℕ)) → usable s ≡ true → out ≡ true
+    → _≡_ {A = Changed} (record { number = 2; sheet = s }) (answered (firstOf ((not (usable s), 1) ∷ (out, 2) ∷ tests)) s next)
+answered-2 s next out tests on e = ap (λ (k : ℕ). answered k s next) (sym (outside s out tests on e))
 
 -- and 0 with the change made and noted
 pub accepted : (k : ℕ) (s : Sheet) (c : Change) (after next : Sheet) → k ≡ 0 → after ≡ made c s → next ≡ noted c after

@@ -6,7 +6,7 @@ use mathlib.Core.List.{List, []}
 use native.Mathlib.Omega.{arith}
 use borrow.Author.Tests.{lt-ltb, le-ltb}
 use lib.ListN.{getD}
-use Rattle.script.specs.Words.{partsOf, marksIn, wordAt}
+use Rattle.script.specs.Words.{partsOf, marksIn}
 use Rattle.script.specs.Calls.{placeOf, judged, isPassed, lineOf, lineBy}
 use Rattle.script.specs.declared.calls.Judged.{Judged}
 use Rattle.script.specs.declared.calls.Line.the-variants.{Passed, Remarked}
@@ -21,7 +21,7 @@ module _ (text line : List ℕ) where
   unfolding lineBy
   passed e = rw e
 
-  module _ (e : isPassed line ≡ false) {place : ℕ} (p : place ≡ placeOf (wordAt 0 line) (partsOf 10 text)) where
+  module _ (e : isPassed line ≡ false) {place : ℕ} (p : place ≡ placeOf line (partsOf 10 text)) where
     unknown : marksIn 10 text < place → lineBy (partsOf 10 text) line ≡ Remarked UnknownCall
     unfolding lineBy
     unknown h = rw (e, ← p, parts-counted 10 text, le-ltb _ _ h)
@@ -40,28 +40,18 @@ returns c =
     let a = c .before .before .before .before .args in
     sym (passed (a .forms .now) (a .line .now) (sym (c .before .is-passed .ensures) ∙ c .if1 .taken))
 
-word-requires : tie.Need-word-requires
-word-requires c κs = search needs
-
 place-of-requires : tie.Need-place-of-requires
 place-of-requires c κs = search needs
 
 marks-requires : tie.Need-marks-requires
 marks-requires c κs = search needs
 
--- the place is that of the line's first word
-placed : (c : tie.After-place-of)
-    → c .place-of .result ≡ placeOf (wordAt 0 (c .before .before .before .before .before .before .args .line .now)) (partsOf 10 (c .before .before .before .before .before .before .args .forms .now))
-placed c =
-    let a = c .before .before .before .before .before .before .args in
-    c .place-of .ensures ∙ ap (λ (w : List ℕ). placeOf w (partsOf 10 (a .forms .now))) (c .before .word .ensures)
-
 returns-2 : tie.Need-returns-2
 returns-2 c =
-    let at-name = c .before .before in
-    let a = at-name .before .before .before .before .before .before .args in
-    let named = at-name .before .before in
-    sym (unknown (a .forms .now) (a .line .now) (sym (named .before .is-passed .ensures) ∙ named .if1 .left) (placed at-name) (omega (arith, c .before .marks .ensures)))
+    let placed = c .before .before in
+    let a = placed .before .before .before .before .before .args in
+    let kept = sym (placed .before .before .is-passed .ensures) ∙ placed .before .if1 .left in
+    sym (unknown (a .forms .now) (a .line .now) kept (placed .place-of .ensures) (omega (arith, c .before .marks .ensures)))
 
 part-requires : tie.Need-part-requires
 part-requires c κs = search needs
@@ -78,19 +68,19 @@ enum-known-judged c = search needs
 returns-3 : tie.Need-returns-3
 returns-3 c =
     let judges = c .before .before in
-    let at-name = judges .before .before .before .before in
-    let a = at-name .before .before .before .before .before .before .args in
-    let named = at-name .before .before in
-    let call = known (a .forms .now) (a .line .now) (sym (named .before .is-passed .ensures) ∙ named .if1 .left) (placed at-name) (omega (arith, judges .before .before .before .marks .ensures)) (judges .before .part .ensures) (judges .judge .ensures) (c .enum-told .given .1) in
+    let placed = judges .before .before .before .before in
+    let a = placed .before .before .before .before .before .args in
+    let kept = sym (placed .before .before .is-passed .ensures) ∙ placed .before .if1 .left in
+    let call = known (a .forms .now) (a .line .now) kept (placed .place-of .ensures) (omega (arith, judges .before .before .before .marks .ensures)) (judges .before .part .ensures) (judges .judge .ensures) (c .enum-told .given .1) in
     sym call
 
 returns-4 : tie.Need-returns-4
 returns-4 c =
     let judges = c .before .before .before in
-    let at-name = judges .before .before .before .before in
-    let a = at-name .before .before .before .before .before .before .args in
-    let named = at-name .before .before in
-    let call = known (a .forms .now) (a .line .now) (sym (named .before .is-passed .ensures) ∙ named .if1 .left) (placed at-name) (omega (arith, judges .before .before .before .marks .ensures)) (judges .before .part .ensures) (judges .judge .ensures) (c .before .judged .given .1) in
+    let placed = judges .before .before .before .before in
+    let a = placed .before .before .before .before .before .args in
+    let kept = sym (placed .before .before .is-passed .ensures) ∙ placed .before .if1 .left in
+    let call = known (a .forms .now) (a .line .now) kept (placed .place-of .ensures) (omega (arith, judges .before .before .before .marks .ensures)) (judges .before .part .ensures) (judges .judge .ensures) (c .before .judged .given .1) in
     sym call
 
 pub line-by-spec : {M : Type 1} → statement M
@@ -99,7 +89,6 @@ line-by-spec =
     (tie.spec
     is-passed-requires
     returns
-    word-requires
     place-of-requires
     marks-requires
     returns-2

@@ -1,25 +1,30 @@
--- `Sheet::enter` meets its contract: the tests of 1 to 10, and the entry made and noted.
+-- `Sheet::enter` meets its contract: the tests of 1 to 10 and 19, and the entry made and noted.
 use mathlib.Core.Path.{_≡_, sym, ap, ap₂, _∙_}
-use mathlib.Core.Bool.{Bool, true, not}
-use mathlib.Core.List.{List, _∷_}
-use Prim.Native.Nat.{ℕ, _≤_}
+use mathlib.Core.Bool.{Bool, true, false, not}
+use mathlib.Core.List.{List, [], _∷_, _++_}
+use Prim.Native.Nat.{ℕ}
+use native.Mathlib.Omega.{arith}
 use borrow.Author.Tests.{not-false, ne-eqb, eq-eqb}
-use lib.Dec.{eqb, ltb}
+use lib.Dec.{eqb}
 use Rattle.measure.specs.Kinds.{kindOf}
 use Rattle.measure.specs.Refusals.{firstOf}
 use Rattle.measure.specs.Offsets.{mOf}
+use Rattle.measure.specs.Ends.{endsOf, endAreas}
 use Rattle.measure.specs.declared.kinds.Kind.{Kind}
 use Rattle.measure.specs.declared.offsets.Measured.{Measured}
 use Rattle.measure.proofs.laws.Tests.{holds, fails}
+use Rattle.measure.proofs.laws.Refusals.{spliced}
 use Rattle.standard.specs.Rules.{entryTests, entryNumber}
 use Rattle.spaces.specs.declared.space.Space.{Space}
 use Rattle.sheet.specs.Sheet.{standing, usable}
-use Rattle.sheet.specs.Calls.{answered, changed, entryOf, spaceOf, measuredFor, entered}
+use Rattle.sheet.specs.Ends.{pointedWithArea}
+use Rattle.sheet.specs.Calls.{answered, changed, entryOf, spaceOf, measuredFor, misstated, entered}
 use Rattle.sheet.specs.declared.changes.Change.the-variants.{Entered}
 use Rattle.sheet.specs.declared.sheet.Sheet.{Sheet}
 use Rattle.sheet.specs.declared.calls.Changed.{Changed}
 use Rattle.sheet.specs.declared.calls.Entry.{Entry}
-use Rattle.sheet.proofs.laws.Calls.{applies, passes, standing-within, refused, answered-1, answered-2, accepted, fitted-open-places, places, open-places}
+use Rattle.sheet.proofs.laws.Calls.{applies, passes, within, refused, answered-1, answered-2, accepted, fitted-open-places, places, open-places}
+use Rattle.sheet.proofs.laws.Ends.{by-its-ends}
 use borrow.Author.Needs.{needs}
 use Rattle.sheet.proofs.sheet.Sheet.enter.Statement.{statement}
 use Rattle.sheet.proofs.sheet.Sheet.enter.Tie as tie
@@ -33,18 +38,18 @@ module _ (s : Sheet) (e : Entry) (hs bs : List ℕ) where
 
   -- the tests from the one of a number on
   abbrev from-4 : List (Bool × ℕ)
-  from-4 = entryTests (s .length) (standing s) x
+  from-4 = entryTests (s .length) (standing s) x ++ ((pointedWithArea e (endsOf hs bs), 19) ∷ [])
 
   abbrev from-3 : List (Bool × ℕ)
   from-3 = let n = measuredFor s e hs bs .number in (not (eqb n 0), n) ∷ from-4
 
   abbrev told : ℕ
-  told = firstOf ((not (usable s), 1) ∷ (ltb 3 (e .standing), 2) ∷ from-3)
+  told = firstOf ((not (usable s), 1) ∷ (misstated e, 2) ∷ from-3)
 
-  -- 1 and 2 by the standing are passed over, and measuring answered r
+  -- 1 and 2 by what is said are passed over, and measuring answered r
   record Measuring (r : Measured) : Type 0 where
     on : usable s ≡ true
-    three : e .standing ≤ 3
+    said : misstated e ≡ false
     is : r ≡ measuredFor s e hs bs
 
   module _ {r : Measured} (m : Measuring r) where
@@ -56,17 +61,21 @@ module _ (s : Sheet) (e : Entry) (hs bs : List ℕ) where
     by-offsets some =
         let n = measuredFor s e hs bs .number in
         let first = applies (not (eqb n 0)) n from-4 (ap not (ne-eqb n 0 (rw number-is at some))) in
-        refused (r .number) s next some ∙ ap (λ (k : ℕ). answered k s next) (number-is ∙ sym (standing-within s (e .standing) from-3 (m .on) (m .three) ∙ first))
+        refused (r .number) s next some ∙ ap (λ (k : ℕ). answered k s next) (number-is ∙ sym (within s (misstated e) from-3 (m .on) (m .said) ∙ first))
 
-    -- else by the record that is made of it, and the number of its entry
-    by-record : r .number ≡ 0 → (depth-parts k : ℕ) (y : Space) → depth-parts ≡ mOf (kindOf (e .kind)) hs → y ≡ entryOf e depth-parts (r .tonnage)
-        → k ≡ entryNumber (s .length) (standing s) y → answered k s (changed (Entered y) s) ≡ answered told s next
+    -- else by the record that is made of it, the number of its entry, and its ends
+    by-record : r .number ≡ 0 → (depth-parts ruled k : ℕ) (y : Space) → depth-parts ≡ mOf (kindOf (e .kind)) hs → y ≡ entryOf e depth-parts (r .tonnage)
+        → ruled ≡ entryNumber (s .length) (standing s) y
+        → k ≡ firstOf ((not (eqb ruled 0), ruled) ∷ (pointedWithArea e (endAreas (s .length) (e .length) hs bs), 19) ∷ [])
+        → answered k s (changed (Entered y) s) ≡ answered told s next
     unfolding entryNumber
-    by-record none depth-parts k y m-is made-of judged =
+    by-record none depth-parts ruled k y m-is made-of rules judged =
         let n = measuredFor s e hs bs .number in
+        let taken : n ≡ 0 = sym number-is ∙ none in
         let same : y ≡ x = made-of ∙ ap₂ (λ (i : ℕ) (q : Measured). entryOf e i (q .tonnage)) m-is (m .is) in
-        let past-3 = passes (not (eqb n 0)) n from-4 (ap not (eq-eqb n 0 (sym number-is ∙ none))) in
-        let number = judged ∙ ap (entryNumber (s .length) (standing s)) same ∙ sym (standing-within s (e .standing) from-3 (m .on) (m .three) ∙ past-3) in
+        let past-3 = passes (not (eqb n 0)) n from-4 (ap not (eq-eqb n 0 taken)) in
+        let ends = by-its-ends e (s .length) hs bs taken in
+        let number = judged ∙ rw (rules, same, ends) (spliced (entryTests (s .length) (standing s) x) ((pointedWithArea e (endsOf hs bs), 19) ∷ []) (omega arith)) ∙ sym (within s (misstated e) from-3 (m .on) (m .said) ∙ past-3) in
         ap₂ (λ (i : ℕ) (z : Space). answered i s (changed (Entered z) s)) number same
 
 usable-requires : tie.Need-usable-requires
@@ -78,31 +87,34 @@ returns c =
     let a = c .before .before .before .before .args in
     let hs = a .heights .now in
     let bs = a .breadths .now in
-    answered-1 (a .self) (next (a .self) (a .entry) hs bs) ((ltb 3 (a .entry .standing), 2) ∷ from-3 (a .self) (a .entry) hs bs)
+    answered-1 (a .self) (next (a .self) (a .entry) hs bs) ((misstated (a .entry), 2) ∷ from-3 (a .self) (a .entry) hs bs)
     (fails (c .before .usable .ensures .usable-is) (c .if1 .taken))
+
+misstated-requires : tie.Need-misstated-requires
+misstated-requires c κs = search needs
 
 returns-2 : tie.Need-returns-2
 unfolding entered
 returns-2 c =
-    let u = c .before .before .before in
-    let a = u .before .before .before .args in
+    let u = c .before .before in
+    let a = u .before .before .before .before .args in
     let hs = a .heights .now in
     let bs = a .breadths .now in
-    answered-2 (a .self) (next (a .self) (a .entry) hs bs) (a .entry .standing) (from-3 (a .self) (a .entry) hs bs)
-    (holds (u .usable .ensures .usable-is) (c .before .before .if1 .left))
-    (c .if2 .taken)
+    answered-2 (a .self) (next (a .self) (a .entry) hs bs) (misstated (a .entry)) (from-3 (a .self) (a .entry) hs bs)
+    (holds (u .before .usable .ensures .usable-is) (u .if1 .left))
+    (sym (c .before .misstated .ensures) ∙ c .if2 .taken)
 
 measure-offsets-requires : tie.Need-measure-offsets-requires
 measure-offsets-requires c κs = search needs
 
 measuring : (q : tie.After-measure-offsets)
-    → (let a = q .before .before .before .before .before .before .before .before .before .args in Measuring (a .self) (a .entry) (a .heights .now) (a .breadths .now) (q .measure-offsets .result))
+    → (let a = q .before .before .before .before .before .before .before .before .args in Measuring (a .self) (a .entry) (a .heights .now) (a .breadths .now) (q .measure-offsets .result))
 measuring q =
-    let two = q .before .before .before in
+    let two = q .before .before in
     let one = two .before .before in
     record {
       on = holds (one .before .usable .ensures .usable-is) (one .if1 .left);
-      three = two .if2 .left;
+      said = sym (two .before .misstated .ensures) ∙ two .if2 .left;
       is = q .measure-offsets .ensures;
     }
 
@@ -110,7 +122,7 @@ returns-3 : tie.Need-returns-3
 unfolding entered
 returns-3 c =
     let q = c .before .before in
-    let a = q .before .before .before .before .before .before .before .before .before .args in
+    let a = q .before .before .before .before .before .before .before .before .args in
     by-offsets (a .self) (a .entry) (a .heights .now) (a .breadths .now) (measuring q) (c .if3 .taken)
 
 kind-of-requires : tie.Need-kind-of-requires
@@ -125,32 +137,37 @@ space-requires c κs = search needs
 entry-number-requires : tie.Need-entry-number-requires
 entry-number-requires c κs = search needs
 
+judged-by-ends-requires : tie.Need-judged-by-ends-requires
+judged-by-ends-requires c κs = search needs
+
 -- what the number of the entry says
-judged : (n : tie.After-entry-number)
-    → (let y = n .before .before in
-    let a = y .before .before .before .before .before .before .before .before .before .before .before .before .before .before .args in
+judged : (n : tie.After-judged-by-ends)
+    → (let y = n .before .before .before in
+    let a = y .before .before .before .before .before .before .before .before .before .before .before .before .before .args in
     let sh = a .self in
     let hs = a .heights .now in
     let bs = a .breadths .now in
-    answered (n .entry-number .result) sh (changed (Entered (y .space .result)) sh) ≡ answered (told sh (a .entry) hs bs) sh (next sh (a .entry) hs bs))
+    answered (n .judged-by-ends .result) sh (changed (Entered (y .space .result)) sh) ≡ answered (told sh (a .entry) hs bs) sh (next sh (a .entry) hs bs))
 judged n =
-    let y = n .before .before in
+    let y = n .before .before .before in
     let m = y .before in
     let three = m .before .before in
     let q = three .before .before in
-    let a = q .before .before .before .before .before .before .before .before .before .args in
+    let a = q .before .before .before .before .before .before .before .before .args in
     let hs = a .heights .now in
-    by-record (a .self) (a .entry) hs (a .breadths .now) (measuring q) (three .if3 .left) (m .m-of .result) (n .entry-number .result) (y .space .result)
+    by-record (a .self) (a .entry) hs (a .breadths .now) (measuring q) (three .if3 .left) (m .m-of .result) (n .before .entry-number .result) (n .judged-by-ends .result) (y .space .result)
     (m .m-of .ensures ∙ ap (λ (k : Kind). mOf k hs) (m .before .kind-of .ensures))
     (y .space .ensures)
-    (n .entry-number .ensures)
+    (n .before .entry-number .ensures)
+    (n .judged-by-ends .ensures)
 
 returns-4 : tie.Need-returns-4
 unfolding entered
 returns-4 c =
     let n = c .before in
-    let sh = n .before .before .before .before .before .before .before .before .before .before .before .before .before .before .before .before .args .self in
-    refused (n .entry-number .result) sh (changed (Entered (n .before .before .space .result)) sh) (c .if4 .taken) ∙ judged n
+    let y = n .before .before .before in
+    let sh = y .before .before .before .before .before .before .before .before .before .before .before .before .before .args .self in
+    refused (n .judged-by-ends .result) sh (changed (Entered (y .space .result)) sh) (c .if4 .taken) ∙ judged n
 
 made-requires : tie.Need-made-requires
 made-requires c κs =
@@ -166,8 +183,9 @@ returns-5 : tie.Need-returns-5
 unfolding entered
 returns-5 c =
     let n = c .before .before .before in
-    let sh = n .before .before .before .before .before .before .before .before .before .before .before .before .before .before .before .before .args .self in
-    accepted (n .entry-number .result) sh (Entered (n .before .before .space .result)) (c .before .made .result) (c .noted .result)
+    let y = n .before .before .before in
+    let sh = y .before .before .before .before .before .before .before .before .before .before .before .before .before .args .self in
+    accepted (n .judged-by-ends .result) sh (Entered (y .space .result)) (c .before .made .result) (c .noted .result)
     (c .before .before .if4 .left)
     (c .before .made .ensures)
     (c .noted .ensures)
@@ -179,6 +197,7 @@ enter-spec =
     (tie.spec
     usable-requires
     returns
+    misstated-requires
     returns-2
     measure-offsets-requires
     returns-3
@@ -186,6 +205,7 @@ enter-spec =
     m-of-requires
     space-requires
     entry-number-requires
+    judged-by-ends-requires
     returns-4
     made-requires
     noted-requires

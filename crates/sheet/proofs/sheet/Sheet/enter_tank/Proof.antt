@@ -4,7 +4,7 @@ use mathlib.Core.Bool.{Bool, true, false, cond, not, _||_}
 use mathlib.Core.List.{List, _∷_}
 use Prim.Native.Nat.{ℕ, _≤_}
 use native.Mathlib.Omega.{arith}
-use borrow.Author.Tests.{not-false}
+use borrow.Author.Tests.{not-false, lt-ltb, le-ltb}
 use lib.Dec.{eqb, ltb}
 use Rattle.measure.specs.Refusals.{firstOf}
 use Rattle.measure.specs.Tanks.{tankInRange}
@@ -20,7 +20,7 @@ use Rattle.sheet.specs.declared.changes.Change.the-variants.{Entered}
 use Rattle.sheet.specs.declared.sheet.Sheet.{Sheet}
 use Rattle.sheet.specs.declared.calls.Changed.{Changed}
 use Rattle.sheet.specs.declared.tanks.Tank.{Tank}
-use Rattle.sheet.proofs.laws.Calls.{standing-within, refused, answered-1, answered-2, accepted, fitted-open-places, places, open-places}
+use Rattle.sheet.proofs.laws.Calls.{within, refused, answered-1, answered-2, accepted, fitted-open-places, places, open-places}
 use borrow.Author.Needs.{needs}
 use Rattle.sheet.proofs.sheet.Sheet.enter_tank.Statement.{statement}
 use Rattle.sheet.proofs.sheet.Sheet.enter_tank.Tie as tie
@@ -57,7 +57,7 @@ module _ (s : Sheet) (k : Tank) (ds bs : List ℕ) where
         ap (λ (t : Bool). cond t (r .number) (firstOf from-4)) (m .ill-is)
         ∙ ap (λ (q : Measured). cond (eqb (q .number) 2 || eqb (q .number) 3) (q .number) (firstOf from-4)) (m .is)
         ∙ judged-by-number (s .length) (u .length) (u .m) (k .length) (k .fore) ds bs from-4
-        ∙ sym (standing-within s (k .standing) from-measures (m .on) (m .three))
+        ∙ sym (within s (ltb 3 (k .standing)) from-measures (m .on) (le-ltb 3 (k .standing) (m .three)))
 
     by-measures : ill ≡ true → _≡_ {A = Changed} (record { number = r .number; sheet = s }) (answered told s next)
     by-measures t = refused (r .number) s next (not-zero (r .number) (sym (m .ill-is) ∙ t)) ∙ ap (λ (n : ℕ). answered n s next) (rw t at number-is)
@@ -92,9 +92,9 @@ returns-2 c =
     let a = u .before .before .before .args in
     let ds = a .depths .now in
     let bs = a .breadths .now in
-    answered-2 (a .self) (next (a .self) (a .tank) ds bs) (a .tank .standing) (from-measures (a .self) (a .tank) ds bs)
+    answered-2 (a .self) (next (a .self) (a .tank) ds bs) (ltb 3 (a .tank .standing)) (from-measures (a .self) (a .tank) ds bs)
     (holds (u .usable .ensures .usable-is) (c .before .before .if1 .left))
-    (c .if2 .taken)
+    (lt-ltb 3 (a .tank .standing) (c .if2 .taken))
 
 measured-requires : tie.Need-measured-requires
 measured-requires c κs = search needs

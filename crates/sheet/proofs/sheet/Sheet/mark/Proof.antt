@@ -2,7 +2,7 @@
 use mathlib.Core.Path.{_≡_, sym, ap, _∙_}
 use Prim.Native.Nat.{ℕ}
 use Rattle.measure.proofs.laws.Tests.{holds, fails}
-use borrow.Author.Tests.{not-false}
+use borrow.Author.Tests.{not-false, lt-ltb, le-ltb}
 use Rattle.sheet.specs.Sheet.{standing, usable}
 use Rattle.sheet.specs.declared.changes.Change.{Change}
 use mathlib.Core.List.{_∷_}
@@ -13,7 +13,7 @@ use Rattle.measure.specs.Refusals.{firstOf}
 use mathlib.Core.Bool.{not}
 use Rattle.sheet.specs.Calls.{answered, changed, marking, marked}
 use Rattle.sheet.specs.declared.changes.Change.the-variants.{Marked}
-use Rattle.sheet.proofs.laws.Calls.{standing-within, refused, answered-1, answered-2, accepted, fitted-open-places, places, open-places}
+use Rattle.sheet.proofs.laws.Calls.{within, refused, answered-1, answered-2, accepted, fitted-open-places, places, open-places}
 use borrow.Author.Needs.{needs}
 use Rattle.sheet.proofs.sheet.Sheet.mark.Statement.{statement}
 use Rattle.sheet.proofs.sheet.Sheet.mark.Tie as tie
@@ -35,9 +35,9 @@ returns-2 c =
     let u = c .before .before in
     let a = u .before .args in
     let sh = a .self in
-    answered-2 sh (changed (marking sh (a .id) (a .standing)) sh) (a .standing) (markTests (standing sh) (a .id) (a .standing))
+    answered-2 sh (changed (marking sh (a .id) (a .standing)) sh) (ltb 3 (a .standing)) (markTests (standing sh) (a .id) (a .standing))
     (holds (u .usable .ensures .usable-is) (c .before .if1 .left))
-    (c .if2 .taken)
+    (lt-ltb 3 (a .standing) (c .if2 .taken))
 
 mark-ruling-requires : tie.Need-mark-ruling-requires
 mark-ruling-requires c κs = search needs
@@ -62,7 +62,7 @@ ruled c =
     let sh = s .args .self in
     let st = s .args .standing in
     let on = holds (u .before .usable .ensures .usable-is) (u .if1 .left) in
-    standing-within sh st (markTests (standing sh) (s .args .id) st) on (t .if2 .left) ∙ sym (number-is c)
+    within sh (ltb 3 st) (markTests (standing sh) (s .args .id) st) on (le-ltb 3 st (t .if2 .left)) ∙ sym (number-is c)
 
 -- what the ruling says
 judged : (n : tie.After-mark-ruling) → (let s = n .before .before .before .before .before in let sh = s .args .self in answered (n .mark-ruling .result .number) sh (changed (marking sh (s .args .id) (s .args .standing)) sh) ≡ marked sh (s .args .id) (s .args .standing))
