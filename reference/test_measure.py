@@ -430,6 +430,12 @@ class Properties(unittest.TestCase):
             for parts in (4, 6):
                 self.assertEqual(m.third_of_depth(depth, parts), (2 * depth + 3 * parts) // (6 * parts))
 
+    def test_the_table_counts_the_fifties_begun(self) -> None:
+        """T-03's rule, over every length in range: a fifty begins at 0, 50, 100, .. feet; 6 is the least, 16 the most."""
+        for length in range(151_000):
+            begun = len(range(0, length, 5000))
+            self.assertEqual(m.parts_by_table(length), max(6, min(16, 2 * begun + 4)))
+
     def test_superstructure_by_brute_force(self) -> None:
         """No even number from 2 to 16 has a nearer interval, and no greater one an interval as near."""
         rng = Random(113)

@@ -6,19 +6,27 @@ ghost use mathlib.Core.Path.{_≡_};
 ghost use Prim.Native.Nat.{_≤_, _<_, _^_};
 ghost use Rattle.measure.specs.Parts.{tableParts, stepParts, underDeckParts, distance as distanceOf, nearer as nearerOf, nearestParts, superstructureParts, depthParts, partsOf};
 
-// The table of 69.109(g)(1).
+// Fifty feet, the width of a class of the table of 69.109(g)(1), and the least and the most parts that the table gives.
+const FIFTY: usize = 5_000;
+
+const LEAST_BY_TABLE: usize = 6;
+
+const MOST_BY_TABLE: usize = 16;
+
+// The table of 69.109(g)(1), worked out from the length (T-03 of document 02): the fifties begun, doubled, and 4 more, with 6 the least and
+// 16 the most.
 pub(crate) fn by_table(length: Hundredths) -> usize
     ensures { λ r. ⌜ r ≡ tableParts length ⌝ }
 {
-    let l = length.0;
-    match l {
-        0..=5_000 => 6,
-        5_001..=10_000 => 8,
-        10_001..=15_000 => 10,
-        15_001..=20_000 => 12,
-        20_001..=25_000 => 14,
-        _ => 16,
+    let begun = (length.0 as usize + FIFTY - 1) / FIFTY;
+    let parts = 2 * begun + 4;
+    if parts < LEAST_BY_TABLE {
+        return LEAST_BY_TABLE;
     }
+    if MOST_BY_TABLE < parts {
+        return MOST_BY_TABLE;
+    }
+    parts
 }
 
 // A part made by a step, 69.109(m)(1).

@@ -1,8 +1,10 @@
--- Every number of parts is even, from 2 to 16.
+-- Every number of parts is even, from 2 to 16; the table is one rule of the length.
+use mathlib.Core.Path.{_≡_, refl}
 use mathlib.Core.Bool.{Bool, true, false, cond}
-use Prim.Native.Nat.{ℕ, zero, suc, _-_, _*_, _≤_}
+use Prim.Native.Nat.{ℕ, zero, suc, _+_, _-_, _*_, _/_, _≤_, _<_, min, max}
 use native.Mathlib.Omega.{arith}
 use lib.Dec.{lit≤, leb, ltb, eqb}
+use borrow.Author.Tests.{leb-true, leb-false}
 use Rattle.measure.specs.Parts.{EvenParts, p2, p4, p6, p8, p10, p12, p14, p16, tableParts, stepParts, underDeckParts, depthParts, distance, nearer, nearestParts, superstructureParts, partsOf}
 use Rattle.measure.specs.declared.units.Hundredths.{Hundredths}
 use Rattle.measure.specs.declared.kinds.Kind.{Kind}
@@ -42,6 +44,24 @@ table-even l =
     (chosen EvenParts (leb l.0 20000) p12
     (chosen EvenParts (leb l.0 25000) p14
     p16))))
+
+-- The table is one rule (T-03 of document 02): the fifties begun, which are l / 50 ft rounded up, doubled, and 4 more, "with 6 the least
+-- and 16 the most". Row by row: each length of a row has the row's number by the rule.
+pub table-by-fifties : (l : Hundredths) → let begun = (l.0 + 4999) / 5000 in tableParts l ≡ max 6 (min 16 (2 * begun + 4))
+unfolding tableParts
+table-by-fifties l =
+    row 5000 (omega arith) (λ over-50.
+    row 10000 (omega arith) (λ over-100.
+    row 15000 (omega arith) (λ over-150.
+    row 20000 (omega arith) (λ over-200.
+    row 25000 (omega arith) (omega arith)))))
+  where
+    row : (edge : ℕ) {n later rule : ℕ} → (l.0 ≤ edge → n ≡ rule) → (edge < l.0 → later ≡ rule) → cond (leb l.0 edge) n later ≡ rule
+    row edge {n} {later} {rule} up-to over = by (leb l.0 edge) refl
+      where
+        by : (b : Bool) → leb l.0 edge ≡ b → cond b n later ≡ rule
+        by true e = up-to (leb-true _ _ e)
+        by false e = over (leb-false _ _ e)
 
 pub step-even : (l : Hundredths) → EvenParts (stepParts l)
 unfolding stepParts

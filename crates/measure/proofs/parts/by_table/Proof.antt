@@ -1,33 +1,35 @@
--- `parts::by_table` meets its contract: the arms are the tests of the definition, in its order.
-use native.Mathlib.Nat.{le-of-suc-le-suc}
-use borrow.Author.Tests.{le-leb, lt-leb}
-use Rattle.measure.specs.Parts.{tableParts}
+-- `parts::by_table` meets its contract: what it works out is the rule that the table is (laws.Parts).
+use native.Mathlib.Omega.{arith}
+use Rattle.measure.proofs.laws.Parts.{table-by-fifties}
+use borrow.Author.Needs.{needs}
 use Rattle.measure.proofs.parts.by_table.Statement.{statement}
 use Rattle.measure.proofs.parts.by_table.Tie as tie
 
+cast-begun : tie.Need-cast-begun
+cast-begun c = search needs
+
+add-begun : tie.Need-add-begun
+add-begun c = search needs
+
+sub-begun : tie.Need-sub-begun
+sub-begun c = search needs
+
+mul-parts : tie.Need-mul-parts
+mul-parts c = search needs
+
+add-parts : tie.Need-add-parts
+add-parts c = search needs
+
 returns : tie.Need-returns
-unfolding tableParts
-returns c = simp (le-leb _ 5000 (le-of-suc-le-suc (c .if1 .taken)))
+returns c = rw table-by-fifties (omega arith)
 
 returns-2 : tie.Need-returns-2
-unfolding tableParts
-returns-2 c = simp (lt-leb _ 5000 (c .before .if1 .left), le-leb _ 10000 (le-of-suc-le-suc (c .if2 .taken)))
+returns-2 c = rw table-by-fifties (omega arith)
 
 returns-3 : tie.Need-returns-3
-unfolding tableParts
-returns-3 c = simp (lt-leb _ 5000 (c .before .before .if1 .left), lt-leb _ 10000 (c .before .if2 .left), le-leb _ 15000 (le-of-suc-le-suc (c .if3 .taken)))
-
-returns-4 : tie.Need-returns-4
-unfolding tableParts
-returns-4 c = simp (lt-leb _ 5000 (c .before .before .before .if1 .left), lt-leb _ 10000 (c .before .before .if2 .left), lt-leb _ 15000 (c .before .if3 .left), le-leb _ 20000 (le-of-suc-le-suc (c .if4 .taken)))
-
-returns-5 : tie.Need-returns-5
-unfolding tableParts
-returns-5 c = simp (lt-leb _ 5000 (c .before .before .before .before .if1 .left), lt-leb _ 10000 (c .before .before .before .if2 .left), lt-leb _ 15000 (c .before .before .if3 .left), lt-leb _ 20000 (c .before .if4 .left), le-leb _ 25000 (le-of-suc-le-suc (c .if5 .taken)))
-
-returns-6 : tie.Need-returns-6
-unfolding tableParts
-returns-6 c = simp (lt-leb _ 5000 (c .before .before .before .before .if1 .left), lt-leb _ 10000 (c .before .before .before .if2 .left), lt-leb _ 15000 (c .before .before .if3 .left), lt-leb _ 20000 (c .before .if4 .left), lt-leb _ 25000 (c .if5 .left))
+returns-3 c = rw table-by-fifties (omega arith)
 
 pub by-table-spec : {M : Type 1} → statement M
-by-table-spec = tie.close (tie.spec returns returns-2 returns-3 returns-4 returns-5 returns-6)
+by-table-spec =
+    tie.close
+    (tie.spec cast-begun add-begun sub-begun mul-parts add-parts returns returns-2 returns-3)
