@@ -2,11 +2,12 @@
 use crate::fummidrake as proved;
 use crate::plain::{self, by_value::After};
 
-/// What is seen of an answer: the paper's number, and the values, 0 where there are fewer than three.
+/// What is seen of an answer: the paper's number, the values, 0 where there are fewer than three, and what the rounding did.
 #[derive(Debug, PartialEq)]
 pub struct Seen {
     pub number: u8,
     pub values: [u64; 3],
+    pub roundings: proved::Roundings,
 }
 
 /// An answer to a call on a sheet.
@@ -16,12 +17,17 @@ pub trait Answer<S> {
 }
 
 impl Seen {
+    /// An answer that says nothing of roundings.
+    fn new(number: u8, values: [u64; 3]) -> Seen {
+        Seen { number, values, roundings: proved::Roundings { length: 0, depths: [0; 17] } }
+    }
+
     fn accepted(values: [u64; 3]) -> Seen {
-        Seen { number: 0, values }
+        Seen::new(0, values)
     }
 
     fn refused(refusal: plain::Refusal) -> Seen {
-        Seen { number: refusal as u8, values: [0; 3] }
+        Seen::new(refusal as u8, [0; 3])
     }
 }
 
@@ -37,7 +43,14 @@ impl<S> Answer<S> for usize {
 impl Answer<proved::Sheet> for proved::Changed {
     fn settle(self, sheet: &mut proved::Sheet) -> Seen {
         *sheet = self.sheet;
-        Seen { number: self.number, values: [0; 3] }
+        Seen::new(self.number, [0; 3])
+    }
+}
+
+impl Answer<proved::Sheet> for proved::Entering {
+    fn settle(self, sheet: &mut proved::Sheet) -> Seen {
+        *sheet = self.sheet;
+        Seen { number: self.number, values: [0; 3], roundings: self.roundings }
     }
 }
 
@@ -51,27 +64,27 @@ impl Answer<proved::Sheet> for proved::Counted {
 impl Answer<proved::Sheet> for proved::Reported {
     fn settle(self, sheet: &mut proved::Sheet) -> Seen {
         *sheet = self.sheet;
-        Seen { number: self.number, values: [self.gross, self.net, 0] }
+        Seen::new(self.number, [self.gross, self.net, 0])
     }
 }
 
 impl Answer<proved::Sheet> for proved::LaidOut {
     fn settle(self, _: &mut proved::Sheet) -> Seen {
-        Seen { number: self.number, values: [self.parts as u64, self.sections as u64, 0] }
+        Seen::new(self.number, [self.parts as u64, self.sections as u64, 0])
     }
 }
 
 impl Answer<proved::Sheet> for proved::Written {
     fn settle(self, sheet: &mut proved::Sheet) -> Seen {
         *sheet = self.sheet;
-        Seen { number: self.number, values: [self.bytes as u64, 0, 0] }
+        Seen::new(self.number, [self.bytes as u64, 0, 0])
     }
 }
 
 impl Answer<proved::Sheet> for proved::Reading {
     fn settle(self, sheet: &mut proved::Sheet) -> Seen {
         *sheet = self.sheet;
-        Seen { number: self.number, values: [self.position as u64, self.justified.into(), self.start as u64] }
+        Seen::new(self.number, [self.position as u64, self.justified.into(), self.start as u64])
     }
 }
 
@@ -87,6 +100,15 @@ impl<A: Answer<plain::Sheet>> Answer<plain::Sheet> for After<A> {
 impl Answer<plain::Sheet> for Result<(), plain::Refusal> {
     fn settle(self, _: &mut plain::Sheet) -> Seen {
         self.map_or_else(Seen::refused, |()| Seen::accepted([0; 3]))
+    }
+}
+
+impl Answer<plain::Sheet> for Result<plain::Roundings, plain::Refusal> {
+    fn settle(self, _: &mut plain::Sheet) -> Seen {
+        self.map_or_else(Seen::refused, |plain::Roundings { length, depths }| Seen {
+            roundings: proved::Roundings { length, depths },
+            ..Seen::accepted([0; 3])
+        })
     }
 }
 
@@ -118,7 +140,7 @@ impl Answer<plain::Sheet> for Result<plain::Read, plain::Unread> {
     fn settle(self, _: &mut plain::Sheet) -> Seen {
         match self {
             Ok(read) => Seen::accepted([0, read.justified.into(), read.start as u64]),
-            Err(unread) => Seen { number: unread.refusal as u8, values: [unread.position as u64, 0, 0] },
+            Err(unread) => Seen::new(unread.refusal as u8, [unread.position as u64, 0, 0]),
         }
     }
 }

@@ -1,5 +1,5 @@
 //! Three surveyors' desks, on which every call is made three times: proved, in plain Rust by value, and in plain Rust in place.
-use crate::answers::Answer;
+use crate::answers::{Answer, Seen};
 use crate::fummidrake as proved;
 use crate::plain;
 use crate::timing::{self, Side};
@@ -24,15 +24,15 @@ pub trait Call {
     /// As a script of calls would have it.
     fn name(&self) -> &str;
 
-    /// Makes it on each desk, and answers the number of refusal. An error says where the desks differ then.
-    fn make(&self, desks: &mut Desks) -> Result<u8, String>;
+    /// Makes it on each desk, and says what was answered. An error says where the desks differ then.
+    fn make(&self, desks: &mut Desks) -> Result<Seen, String>;
 
     /// What makes it again and again for the clock, on the sheets as they lie there: proved, by value and in place.
     fn sides<'a>(&'a self, desks: &'a mut Desks) -> [Side<'a>; 3];
 
     /// Makes it where it has to be accepted.
     fn accept(&self, desks: &mut Desks) -> Result<(), String> {
-        match self.make(desks)? {
+        match self.make(desks)?.number {
             0 => Ok(()),
             number => Err(format!("{}: refused with {number}", self.name())),
         }
@@ -119,15 +119,15 @@ where
         &self.name
     }
 
-    fn make(&self, desks: &mut Desks) -> Result<u8, String> {
+    fn make(&self, desks: &mut Desks) -> Result<Seen, String> {
         let Desks { proved, by_value, in_place } = desks;
         let seen = [
             (self.proved)(&proved.sheet, &mut proved.buffer).settle(&mut proved.sheet),
             (self.by_value)(&by_value.sheet, &mut by_value.buffer).settle(&mut by_value.sheet),
             (self.in_place)(&mut in_place.sheet, &mut in_place.buffer).settle(&mut in_place.sheet),
         ];
-        let number = same("answer", seen).and_then(|seen| desks.compare().map(|()| seen.number));
-        number.map_err(|difference| format!("{}: {difference}", self.name))
+        let answered = same("answer", seen).and_then(|seen| desks.compare().map(|()| seen));
+        answered.map_err(|difference| format!("{}: {difference}", self.name))
     }
 
     fn sides<'a>(&'a self, desks: &'a mut Desks) -> [Side<'a>; 3] {

@@ -1,4 +1,5 @@
-//! Calls at random, made on each desk: so many that every number of refusal occurs.
+//! Calls at random, made on each desk: so many that every number of refusal occurs, and third intervals are rounded both ways.
+use crate::answers::Seen;
 use crate::calls;
 use crate::cases::{sheet_of, size_of_sheet, PLACES};
 use crate::desk::{Call, Desks};
@@ -36,24 +37,63 @@ impl Dice {
 struct Survey<'a> {
     dice: &'a mut Dice,
     desks: Desks,
-    /// Which numbers of refusal have occurred.
-    occurred: &'a mut [bool; GREATEST + 1],
+    occurred: &'a mut Occurred,
 }
 
-/// Makes calls at random; an error where answers differ, or where a number of refusal didn't occur.
+/// What has occurred in the answers so far.
+#[derive(Default)]
+struct Occurred {
+    numbers: [bool; GREATEST + 1],
+    lengths: Rounded,
+    depths: Rounded,
+}
+
+/// Whether one of the third intervals was rounded up, and whether one was rounded down.
+#[derive(Default)]
+struct Rounded {
+    up: bool,
+    down: bool,
+}
+
+impl Rounded {
+    fn note(&mut self, roundings: &[i8]) {
+        self.up |= roundings.iter().any(|&rounding| rounding > 0);
+        self.down |= roundings.iter().any(|&rounding| rounding < 0);
+    }
+}
+
+impl Occurred {
+    fn note(&mut self, seen: &Seen) {
+        self.numbers[usize::from(seen.number)] = true;
+        self.lengths.note(&[seen.roundings.length]);
+        self.depths.note(&seen.roundings.depths);
+    }
+
+    /// An error says what hasn't.
+    fn all(&self) -> Result<(), String> {
+        if let Some(number) = NUMBERS.into_iter().find(|&number| !self.numbers[number]) {
+            return Err(format!("no call at random was refused with {number}"));
+        }
+        for (what, rounded) in [("length", &self.lengths), ("depth", &self.depths)] {
+            if !(rounded.up && rounded.down) {
+                return Err(format!("at random no third interval of {what} was rounded up, or none down"));
+            }
+        }
+        Ok(())
+    }
+}
+
+/// Makes calls at random; an error where answers differ, or where a number of refusal or a rounding either way didn't occur.
 pub fn check() -> Result<(), String> {
     let starts: Vec<Desks> = [0, 2, 30, PLACES].into_iter().map(sheet_of).collect::<Result<_, _>>()?;
     let mut dice = Dice(88_172_645_463_325_252);
-    let mut occurred = [false; GREATEST + 1];
+    let mut occurred = Occurred::default();
     for _ in 0..RUNS {
         let desks = starts[dice.below(starts.len() as u64) as usize].clone();
         let mut survey = Survey { dice: &mut dice, desks, occurred: &mut occurred };
         (0..CALLS_A_RUN).try_for_each(|_| survey.step())?;
     }
-    match NUMBERS.into_iter().find(|&number| !occurred[number]) {
-        Some(number) => Err(format!("no call at random was refused with {number}")),
-        None => Ok(()),
-    }
+    occurred.all()
 }
 
 impl Survey<'_> {
@@ -76,7 +116,7 @@ impl Survey<'_> {
     }
 
     fn make(&mut self, call: &dyn Call) -> Result<(), String> {
-        self.occurred[usize::from(call.make(&mut self.desks)?)] = true;
+        self.occurred.note(&call.make(&mut self.desks)?);
         Ok(())
     }
 
@@ -120,7 +160,7 @@ impl Survey<'_> {
             standing: self.dice.one_of(&[0, 0, 0, 0, 0, 1, 1, 2, 2, 3, 4]),
             fore_end: self.end_of_under_deck(),
             aft_end: self.end_of_under_deck(),
-            length: self.dice.one_of(&[tonnage_length, tonnage_length / 2, 4_000, 2_000, 300, 100, 99, 0, 150_001]),
+            length: self.length(tonnage_length),
         };
         let most = self.dice.one_of(&[100, 100, 1_600, 20_000]);
         let mut heights = self.measures(stations(entry.kind, tonnage_length, entry.length), most);
@@ -140,6 +180,14 @@ impl Survey<'_> {
             _ => {}
         }
         calls::enter(entry, heights, breadths)
+    }
+
+    /// One at which the rules turn, or any up to 50 ft, since round ones are seldom rounded up.
+    fn length(&mut self, tonnage_length: u32) -> u32 {
+        match self.dice.below(4) {
+            0 => 1 + self.dice.below(5_000) as u32,
+            _ => self.dice.one_of(&[tonnage_length, tonnage_length / 2, 4_000, 2_000, 300, 100, 99, 0, 150_001]),
+        }
     }
 
     /// Inner, upright or pointed, and now and then none of these.

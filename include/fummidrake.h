@@ -142,6 +142,22 @@ typedef struct {
     fummidrake_sheet sheet;
 } fummidrake_changed;
 
+/* What the rounding of third intervals did: above zero where it was up, zero where the third interval is exact, else below. That of a
+ * length L in n parts is 3n x third - 10 L, in parts of 1/(3n) of a thousandth of a foot; of a depth D in m parts 3m x third - D, in
+ * parts of 1/(3m) of a hundredth. `length` is a U's, B's or S's, 0 for an H or R; `depths` are those at a U's stations, from the bow,
+ * and 0 in every other place. Where the entry was refused all are 0; a tank hands on none. */
+typedef struct {
+    int8_t length;
+    int8_t depths[17];
+} fummidrake_roundings;
+
+/* The number, what the rounding did, and the sheet after the call: where refused, as it came. */
+typedef struct {
+    uint8_t number;
+    fummidrake_roundings roundings;
+    fummidrake_sheet sheet;
+} fummidrake_entering;
+
 /* How many changes are open, and the sheet as it came. */
 typedef struct {
     size_t undoable;
@@ -234,6 +250,13 @@ FUMMIDRAKE_SIZE(fummidrake_sheet, 5280);
 FUMMIDRAKE_FIELD(fummidrake_changed, number, 0);
 FUMMIDRAKE_FIELD(fummidrake_changed, sheet, 8);
 FUMMIDRAKE_SIZE(fummidrake_changed, 5288);
+FUMMIDRAKE_FIELD(fummidrake_roundings, length, 0);
+FUMMIDRAKE_FIELD(fummidrake_roundings, depths, 1);
+FUMMIDRAKE_SIZE(fummidrake_roundings, 18);
+FUMMIDRAKE_FIELD(fummidrake_entering, number, 0);
+FUMMIDRAKE_FIELD(fummidrake_entering, roundings, 1);
+FUMMIDRAKE_FIELD(fummidrake_entering, sheet, 24);
+FUMMIDRAKE_SIZE(fummidrake_entering, 5304);
 FUMMIDRAKE_FIELD(fummidrake_counted, undoable, 0);
 FUMMIDRAKE_FIELD(fummidrake_counted, redoable, 8);
 FUMMIDRAKE_FIELD(fummidrake_counted, sheet, 16);
@@ -271,10 +294,11 @@ fummidrake_changed fummidrake_open(uint32_t length);
 
 /* Enters a space from its offsets: for a U the depths at the stations, and the breadths station by station from the bow, at each
  * from above; for a B or S one height and one breadth a station; for an H or R one of each. A pointed end of a U has no area: its
- * depth or all its breadths are 0, or its third interval of depth rounds to 0. Refused with 1 to 10, 19. */
+ * depth or all its breadths are 0, or its third interval of depth rounds to 0. The answer says too what the rounding of its third
+ * intervals did. Refused with 1 to 10, 19. */
 FUMMIDRAKE_MUST_USE
-fummidrake_changed fummidrake_enter(fummidrake_sheet sheet, fummidrake_entry entry, const uint32_t *heights, size_t heights_count,
-                                    const uint32_t *breadths, size_t breadths_count);
+fummidrake_entering fummidrake_enter(fummidrake_sheet sheet, fummidrake_entry entry, const uint32_t *heights, size_t heights_count,
+                                     const uint32_t *breadths, size_t breadths_count);
 
 /* Enters a tank that follows the hull, a room directly inside its U, from its sections, as fummidrake_lay_out counts them: a depth a
  * section, and the breadths section by section from the bow, at each m + 1 from above, with that U's m. Where a tank station falls
@@ -365,6 +389,12 @@ fummidrake_listing fummidrake_list(const uint8_t *file, size_t file_bytes);
 /* The same calls in place: each takes a pointer to the caller's sheet, replaces that sheet by the one that the call hands back (where
  * refused, as it was), and answers what else there is. Opening and reading take no sheet, and have no such form. */
 
+/* The number, and what the rounding did. */
+typedef struct {
+    uint8_t number;
+    fummidrake_roundings roundings;
+} fummidrake_entering_on;
+
 /* How many changes are open. */
 typedef struct {
     size_t undoable;
@@ -384,13 +414,14 @@ typedef struct {
     size_t bytes;
 } fummidrake_written_on;
 
-/* Enters a space on the sheet, and answers the number: see fummidrake_enter. */
+/* Enters a space on the sheet, and answers the number and what the rounding did: see fummidrake_enter. */
 FUMMIDRAKE_MUST_USE
-static inline uint8_t fummidrake_enter_on(fummidrake_sheet *sheet, fummidrake_entry entry, const uint32_t *heights,
-                                          size_t heights_count, const uint32_t *breadths, size_t breadths_count) {
-    fummidrake_changed answer = fummidrake_enter(*sheet, entry, heights, heights_count, breadths, breadths_count);
+static inline fummidrake_entering_on fummidrake_enter_on(fummidrake_sheet *sheet, fummidrake_entry entry, const uint32_t *heights,
+                                                         size_t heights_count, const uint32_t *breadths, size_t breadths_count) {
+    fummidrake_entering answer = fummidrake_enter(*sheet, entry, heights, heights_count, breadths, breadths_count);
+    fummidrake_entering_on values = {answer.number, answer.roundings};
     *sheet = answer.sheet;
-    return answer.number;
+    return values;
 }
 
 /* Enters a tank on the sheet, and answers the number: see fummidrake_enter_tank. */

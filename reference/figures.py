@@ -19,8 +19,8 @@ from typing import Any, Callable, Iterator, NamedTuple, Sequence
 from reference import command_line, measure as m
 from reference.measure import B, H, R, S, U
 from reference.survey import (
-    GREATEST_MEASURE, GREATEST_NUMBER, MOST_NUMBERS, Reader, a_code, a_measure, answer_to, answers_to, arguments, measures,
-    number,
+    GREATEST_MEASURE, GREATEST_NUMBER, MOST_NUMBERS, Reader, a_code, a_measure, answer_to, answers_to, arguments, in_a_list,
+    measures, number,
 )
 
 
@@ -30,7 +30,7 @@ def word(argument: int | Sequence[int]) -> str:
     """A number, or numbers joined by commas, '-' for none."""
     if isinstance(argument, int):
         return str(argument)
-    return ",".join(map(str, argument)) or "-"
+    return in_a_list(argument)
 
 
 class Space(NamedTuple):

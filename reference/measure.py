@@ -3,7 +3,8 @@
 Lengths, breadths, depths and heights are handed in as hundredths of a foot and tonnages as hundredths of a ton.
 Volumes are worked out in cubic feet, as exact fractions, and rounded once at the end.
 Paragraph numbers are those of 46 CFR part 69; where one reads "the paper", the rule stands only there. "The request" is
-T-01, tanks that follow the hull, or T-02, pointed bows, where it speaks of the ends of a U.
+T-01, tanks that follow the hull, or T-02, pointed bows, where it speaks of the ends of a U, or T-04, say what the
+rounding did, where it speaks of roundings.
 """
 
 from fractions import Fraction
@@ -40,6 +41,7 @@ EVEN_NUMBERS = range(2, 17, 2)  # for a superstructure, 69.113(b)(2) and the pap
 FOUR_DEPTH_PARTS_UP_TO = 1600  # 69.109(h)(4)(i), 16 feet or less
 PARTS_OF_DEPTH = (4, 6)  # the m that there are
 THIRDS = 3  # in an interval
+NOTHING_ROUNDED = (0, ())  # what an entry passes on where it is refused: of its length, and of no station's depth
 
 HATCHWAY_SHARE = Fraction(1, 200)  # 69.115(c), one-half of one percent
 BALLAST_SHARE = Fraction(30, 100)  # 69.117(f)(4), 30%
@@ -67,14 +69,49 @@ def feet(hundredths: int) -> Fraction:
     return Fraction(hundredths, HUNDREDTHS)
 
 
+def exact_divisor(parts: int) -> int:
+    """What a third interval is divided by: 3n of a length in n parts, 3m of a depth in m parts."""
+    return THIRDS * parts
+
+
+def exact_third_of_length(length: int, parts: int) -> Fraction:
+    """'Third interval of a length L in n parts: 10L/(3n)', in thousandths of a foot, not rounded yet."""
+    return feet(length) / exact_divisor(parts) * THOUSANDTHS
+
+
+def exact_third_of_depth(depth: int, parts: int) -> Fraction:
+    """'Of a depth D in m parts: D/(3m)', in hundredths of a foot, not rounded yet."""
+    return feet(depth) / exact_divisor(parts) * HUNDREDTHS
+
+
 def third_of_length(length: int, parts: int) -> int:
-    """'Third interval of a length L in n parts: 10L/(3n), nearest', in thousandths of a foot."""
-    return nearest(feet(length) / (3 * parts) * THOUSANDTHS)
+    """'10L/(3n), nearest', in thousandths of a foot."""
+    return nearest(exact_third_of_length(length, parts))
 
 
 def third_of_depth(depth: int, parts: int) -> int:
-    """'Of a depth D in m parts: D/(3m), nearest', in hundredths of a foot."""
-    return nearest(feet(depth) / (3 * parts) * HUNDREDTHS)
+    """'D/(3m), nearest', in hundredths of a foot."""
+    return nearest(exact_third_of_depth(depth, parts))
+
+
+def rounding(exact: Fraction, divisor: int) -> int:
+    """'A signed number of parts of its exact divisor: above zero when rounded up, zero when exact, else below.'
+
+    A thousandth or hundredth of a foot has as many parts as the divisor says, and the exact third interval is a whole
+    number of them. The rounded one lies so many parts above it; where the number is below zero, so many below it.
+    """
+    part = Fraction(1, divisor)
+    return int((nearest(exact) - exact) / part)
+
+
+def rounding_of_length(length: int, parts: int) -> int:
+    """'Each third interval now also gives its rounding': of a length, in parts of a thousandth of a foot."""
+    return rounding(exact_third_of_length(length, parts), exact_divisor(parts))
+
+
+def rounding_of_depth(depth: int, parts: int) -> int:
+    """The same of a depth, in parts of a hundredth of a foot."""
+    return rounding(exact_third_of_depth(depth, parts), exact_divisor(parts))
 
 
 def tonnage(volume: Fraction) -> int:
@@ -345,6 +382,24 @@ def measure(
     if wrong_number(kind, tonnage_length, length, heights, breadths):
         return WRONG_NUMBER, 0
     return ACCEPTED, tonnage(volume(kind, length, heights, breadths))
+
+
+# What a measured space passes on
+
+def roundings_of_depths(depths: Sequence[int]) -> tuple[int, ...]:
+    """'A U also that of every station's depth', from the bow, with the m that the middle station fixes for all."""
+    m = parts_of_depth(middle_depth(depths))
+    return tuple(rounding_of_depth(depth, m) for depth in depths)
+
+
+def roundings(kind: int, tonnage_length: int, length: int, heights: Sequence[int]) -> tuple[int, tuple[int, ...]]:
+    """'Each U, B and S passes on the rounding of its length, a U also that of every station's depth.'
+
+    Of a space that has the measures its kind asks for. An H or R isn't divided and has no third interval: 0 and none.
+    """
+    number = parts(kind, tonnage_length, length)
+    of_length = rounding_of_length(length, number) if number else 0
+    return of_length, roundings_of_depths(heights) if kind == U else ()
 
 
 # Gross

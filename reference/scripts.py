@@ -9,9 +9,9 @@ after its last line.
 
 import sys
 from fractions import Fraction
-from itertools import combinations, islice, product
+from itertools import combinations, cycle, islice, product
 from random import Random
-from typing import Callable, Iterator, Sequence
+from typing import Callable, Iterable, Iterator, Sequence
 
 from reference import command_line, dayfile, figures, files, measure as m, sheet as s
 from reference.figures import one_of, some, word
@@ -1129,6 +1129,124 @@ def pointed_and_files(rng: Random, session: Session) -> Lines:
     yield from (*read_and_looked_at(session, dayfile.bytes_of(session.sheet, 1)), refused, "counts")
 
 
+# Sections of roundings
+
+DEPTHS_APART = 5  # from station to station: prime to 12 and 18, so that a rounding comes again behind all the others
+MIDDLES = (1600, 1601, 1593, 1610)  # depths, with m 4 and m 6 in turn
+# A U in two parts with m 4, none of its third intervals exact: they are had from 6010/6, 1211/12, 1598/12 and 1205/12
+NEVER_EXACT = (601, [1211, 1598, 1205], [9] * 15)
+
+
+def at_edges(roundings: Iterable[int]) -> list[int]:
+    """Of all the roundings that there are: the least, the two beside 0, 0 itself and the two greatest.
+
+    The least lies just over minus a half of the divisor; the greatest is its half, where there is such a one.
+    """
+    below, above = (sorted(one for one in roundings if one * sign > 0) for sign in (-1, 1))
+    return sorted({below[0], below[-1], 0, above[0], *above[-2:]})
+
+
+def lengths_at_edges(number: int, first: int) -> list[int]:
+    """In that number of parts a length for each of these roundings, of those from the first on."""
+    lengths = range(first, first + m.exact_divisor(number))  # so many have all the roundings that there are
+    by_rounding = {m.rounding_of_length(length, number): length for length in lengths}
+    return [by_rounding[rounding] for rounding in at_edges(by_rounding)]
+
+
+def depths_apart(number: int, middle: int) -> list[int]:
+    """Depths of a U in that number of parts, about that of its middle station: neighbours are rounded differently."""
+    return [middle + DEPTHS_APART * (station - number // 2) for station in range(number + 1)]
+
+
+def narrow(id: int, length: int, depths: Sequence[int]) -> str:
+    """The entry of a U with these depths, narrow all through."""
+    return enter(id, 0, U, PLAIN, length, depths, [9] * m.breadths_asked(U, depths))
+
+
+def rounded_under_decks(rng: Random, session: Session) -> Lines:
+    """Lengths of U at the edges of rounding in every number of parts, whole and step parts, at m 4 and 6."""
+    middles = cycle(MIDDLES)
+    yield "# Roundings: a U that is the whole of its tonnage length; as a step part the shortest would be in 4 parts"
+    for number, first in ((6, 2100), (8, 9_900), (10, 14_900), (12, 19_900), (14, 24_900), (16, 29_950)):
+        for length in lengths_at_edges(number, first):
+            yield from (f"open {length}", narrow(1, length, depths_apart(number, next(middles))))
+    for length in (100, 30_000, 30_001, 149_999, 150_000):
+        number = m.parts_by_table(length)
+        yield from (f"open {length}", narrow(1, length, depths_apart(number, next(middles))))
+    yield "# Roundings: step parts, those in 2 and 4 parts at all the edges, those by the table at the greatest rounding"
+    by_table = ((6, 4000), (8, 5001), (10, 10_001), (12, 15_001), (14, 20_001), (16, 25_001))
+    lengths = [*lengths_at_edges(2, 1990), *lengths_at_edges(4, 2001), 3999, 4000]
+    lengths += [lengths_at_edges(number, first)[-1] for number, first in by_table]
+    yield "open 150000"
+    for id, length in enumerate(lengths, start=1):
+        yield narrow(id, length, depths_apart(m.parts_of_step_part(length), next(middles)))
+    yield from LOOK
+
+
+def rounded_levels(rng: Random, session: Session) -> Lines:
+    """Lengths of B and S at the edges of rounding, in every number of parts; they have no station's depth."""
+    yield "# Roundings: B of another length than the tonnage length, which gives the parts; the paper's long one too"
+    for number, tonnage_length in ((6, 5000), (8, 5001), (10, 10_001), (12, 20_000), (14, 25_000), (16, 25_001)):
+        yield f"open {tonnage_length}"
+        for id, length in enumerate([*lengths_at_edges(number, 700), 150_000], start=1):
+            yield divided(id, B, tonnage_length, length, 9, 9)
+    yield "# Roundings: S, in the parts that are nearest to an interval of 800; the shortest one, and the paper's tie"
+    yield "open 4800"
+    lengths = [length for number in m.EVEN_NUMBERS for length in lengths_at_edges(number, 800 * number - 20)]
+    yield from (divided(id, S, 4800, length, 9, 9) for id, length in enumerate([*lengths, 1], start=1))
+    yield from ("open 4500", divided(1, S, 4500, 2000, 9, 9), *LOOK)
+
+
+def rounded_depths(rng: Random, session: Session) -> Lines:
+    """Every rounding of a depth at each of three stations, with m 4 and 6; depths of 0, next to it and the greatest."""
+    yield "# Roundings: depths, with m 4 up to a middle one of 1600 and with m 6 from 1601 on"
+    yield "open 1200"
+    for middle in range(1600 - 11, 1601 + 18):
+        yield from (narrow(1, 600, depths_apart(2, middle)), "undo")
+    yield "# Roundings: depths about those whose third interval is 0, 1 and 2, and the greatest; the middle one fixes m"
+    for depths in (
+        [0, 5, 6, 12, 18, 17, 19], [7, 11, 13, 1, 19_998, 20_000, 19_997], [20_000, 1601, 1600, 1599, 1601, 0, 1602],
+        [0, 8, 9, 1800, 27, 26, 28], [10, 17, 19, 1601, 19_989, 20_000, 19_988], [20_000, 1600, 1601, 1602, 9, 18, 1],
+    ):
+        yield from (narrow(1, 1200, depths), "undo")
+    yield from LOOK
+
+
+def not_rounded(rng: Random, session: Session) -> Lines:
+    """Nothing is passed on by what is refused, with every number, nor by hatchways, rooms and tanks, undo and redo.
+
+    All have measures that would not be exact.
+    """
+    _, depths, breadths = NEVER_EXACT
+    entries = (
+        (U, *NEVER_EXACT), (B, 1300, [9] * 7, [9] * 7), (S, 301, [9] * 3, [9] * 3), (H, 601, [7], [7]),
+        (R, 601, [7], [7]),
+    )
+    yield "# Roundings: none where 1, 2, 3, 4 or 6 is given, of any kind"
+    for opening in ("open 99", "open 1300"):
+        yield from (opening, divided(1, U, 1300, 600, 1200, 500), hatchway(2, 20))
+        for kind, length, heights, own in entries:
+            yield from (enter(9, 1, kind, 4, length, heights, own), enter(9, 1, kind, 0, length, heights, [*own, 7]))
+            yield from (enter(1, 1, kind, 0, length, heights, own), enter(9, 2, kind, DEDUCTED, length, heights, own))
+    yield "# Roundings: none where 2 is given by an end, or 19, 9, 5, 7 or 8"
+    yield from (enter(9, 0, U, PLAIN, *NEVER_EXACT, ends) for ends in ((), (POINTED, INNER), (UPRIGHT, POINTED)))
+    yield from (enter(9, 0, U, PLAIN, 701, depths, breadths), enter(9, 77, R, PLAIN, 601, [7], [7]))
+    yield from (*chain(1, 11, 7, 1), enter(9, 17, R, PLAIN, 601, [7], [7]), enter(9, 16, R, PLAIN, 601, [700], [700]))
+    yield from (mark(16, EXEMPT), enter(9, 16, R, DEDUCTED, 601, [7], [7]))
+    yield "# Roundings: of what is accepted, but not where it is undone, made again or marked, nor of a tank in it"
+    for kind, *measures in entries:
+        yield from (enter(9, 1, kind, PLAIN, *measures), "undo", "redo", withdraw(9), "undo", mark(9, PLAIN))
+        yield from ["undo"] * 2
+    yield from (enter(9, 0, U, PLAIN, *NEVER_EXACT), tank(10, 9, PLAIN, 301, 1, depths, [1] * 15), "undo", "redo")
+    yield from (tank(20, 9, PLAIN, 301, 301, depths, [1] * 15), tank(20, 1, PLAIN, 299, 1, depths, [1] * 15), *LOOK)
+    yield from (*["undo"] * 3, *LOOK)
+    yield "# Roundings: none where 10 is given, and those of what finds a place again"
+    yield from (room(id, 11) for id in range(20, 20 + s.PLACES - len(session.sheet.spaces)))
+    for line in [enter(9, 1, kind, PLAIN, *measures) for kind, *measures in entries]:
+        yield from (line, withdraw(20), line, "undo", "undo")
+    yield from ("counts", "report 0")
+
+
 # Lines that are no calls, for each remark
 MALFORMED = (
     "", "#", "# open 1200", " ", " undo", "Undo", "UNDO", "undo\t", "undo\r", "open\t1200", "close", "reports 0", "0",
@@ -1564,6 +1682,38 @@ def tank_walk(rng: Random, session: Session) -> Lines:
     yield from LOOK_AND_REPORT
 
 
+def of_any_class(rng: Random) -> int:
+    """A length of a class of the table or over 300 ft, each as likely."""
+    shortest = one_of(rng, (100, 5001, 10_001, 15_001, 20_001, 25_001, 30_001))
+    return rng.randint(shortest, shortest + 4899)
+
+
+def dividing(rng: Random, sheet: Sheet, most: int) -> Lines:
+    """An entry of a U, B or S of any length and any depths, narrow all through; a U where a length is left for it."""
+    left = sheet.length - s.under_deck_length(sheet.spaces)
+    kind = one_of(rng, (U, U, B, S) if left >= m.LEAST_LENGTH[U] else (B, S))
+    length = of_any_class(rng)
+    if kind == U:
+        short = rng.randint(m.LEAST_LENGTH[U], min(left, m.FOUR_PARTS_UNDER))
+        length = one_of(rng, (left, left, min(length, left), short))
+    heights = some(rng, m.heights_asked(kind, sheet.length, length), 0, one_of(rng, (1600, 3200)))
+    breadths = some(rng, m.breadths_asked(kind, heights), 0, 9)
+    measures = with_ends(rng, heights, breadths) if kind == U else (heights, breadths)
+    yield enter(new_id(rng, sheet, most), 0, kind, a_standing(rng, kind), length, *measures)
+
+
+DIVISIONS = (dividing,) * 10 + (withdrawing, undoing, redoing)
+
+
+def dividing_walk(rng: Random, session: Session) -> Lines:
+    """Mostly U, B and S, on sheets of all classes: roundings of all sorts, in every number of parts."""
+    for _ in range(rng.randint(1, 4)):
+        yield f"open {of_any_class(rng)}"
+        for _ in range(rng.randint(2, 8)):
+            yield from DIVISIONS[rng.randrange(len(DIVISIONS))](rng, session.sheet, 30)
+        yield from LOOK_AND_REPORT
+
+
 UNDER_DECKS = (under_decking,) * 10 + (entering, tanking, withdrawing, undoing, redoing, reporting, looking)
 
 
@@ -1585,6 +1735,7 @@ def walks(rng: Random, session: Session) -> Lines:
             yield from tank_walk(rng, session)
         if rng.randrange(2) == 0:
             yield from under_deck_walk(rng, session)
+        yield from dividing_walk(rng, session)
         yield f"open {one_of(rng, TONNAGE_LENGTHS)}"
         yield from walk(rng, session, one_of(rng, (8, 30, 30, 300, 9_999)), rng.randint(60, 260))
         yield from LOOK_AND_REPORT
@@ -1607,7 +1758,8 @@ SECTIONS: tuple[Section, ...] = (
     sums_of_rooms, sums_of_lengths, two_hundred, sixty_four, redo_after, order_of_entry, ids_again, not_plain,
     writes, places_in_a_buffer, written_and_read, changes_after_a_read, generated_files, tank_figures, tank_refusals,
     tank_ranges, tank_sections, tanks_and_files, tanks_as_rooms, where_to_measure, pointed_figures, pointed_ends,
-    pairs_of_ends, ends_said, pointed_refusals, pointed_and_changed, pointed_and_files, malformed, crowded,
+    pairs_of_ends, ends_said, pointed_refusals, pointed_and_changed, pointed_and_files, rounded_under_decks,
+    rounded_levels, rounded_depths, not_rounded, malformed, crowded,
 )
 SEEDS = range(69_107, 69_117)  # of the walks behind the sections
 CALLS_OF_A_WALK = 150

@@ -2,9 +2,9 @@
 
 A sheet is a value that never changes: every call answers its number, its values and the sheet after it. What can be
 undone and redone is kept as whole copies of the standing spaces, one for each open change.
-Quoted sentences are the paper's, those on tanks the request T-01's, those on ends of a U T-02's. Of all the numbers of
-refusal that apply to a call the lowest is given; one that can't be judged (a level in an enclosing space that doesn't
-stand, say) counts as not applying.
+Quoted sentences are the paper's, those on tanks the request T-01's, those on ends of a U T-02's, those on roundings
+T-04's. Of all the numbers of refusal that apply to a call the lowest is given; one that can't be judged (a level in an
+enclosing space that doesn't stand, say) counts as not applying.
 """
 
 from dataclasses import dataclass, replace
@@ -449,14 +449,17 @@ def new_space(
 def enter(
     sheet: Sheet, id: int, within: int, kind: int, standing: int, length: int, heights: Sequence[int],
     breadths: Sequence[int], fore: int = NOT_SAID, aft: int = NOT_SAID,
-) -> tuple[int, Sheet]:
+) -> tuple[int, int, tuple[int, ...], Sheet]:
     """A new space comes last in order, whatever stood before.
 
-    The enclosing id is read only for a room, and what is said of the ends only for a U.
+    The enclosing id is read only for a room, and what is said of the ends only for a U. 'Each U, B and S passes on the
+    rounding of its length, a U also that of every station's depth'; one that is refused passes on nothing.
     """
     new = new_space(sheet, id, within, kind, standing, length, heights, breadths)
     number = lowest(numbers_of_entry(sheet, new, heights, breadths, fore, aft))
-    return number, sheet if number else changed(sheet, (*sheet.spaces, new))
+    if number:
+        return number, *m.NOTHING_ROUNDED, sheet
+    return ACCEPTED, *m.roundings(kind, sheet.length, length, heights), changed(sheet, (*sheet.spaces, new))
 
 
 def new_tank(
@@ -481,7 +484,7 @@ def enter_tank(
     sheet: Sheet, id: int, within: int, standing: int, length: int, fore: int, depths: Sequence[int],
     breadths: Sequence[int],
 ) -> tuple[int, Sheet]:
-    """A tank that follows the hull, entered as any room is."""
+    """A tank that follows the hull, entered as any room is; it passes on no rounding."""
     new = new_tank(sheet, id, within, standing, length, fore, depths, breadths)
     number = lowest(numbers_of_tank(sheet, new, fore, depths, breadths))
     return number, sheet if number else changed(sheet, (*sheet.spaces, new))

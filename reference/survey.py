@@ -26,7 +26,7 @@ the right: a buffer too large before a filling that is no number.
 """
 
 import sys
-from typing import Any, Callable
+from typing import Any, Callable, Iterable
 
 from reference import dayfile, measure as m, sheet as s
 from reference.sheet import Sheet, Space
@@ -143,6 +143,17 @@ def in_hex(file: bytes) -> str:
     return file.hex() or "-"
 
 
+def in_a_list(numbers: Iterable[int]) -> str:
+    """The word for these numbers: joined by commas, '-' for none; one below zero has a '-' before it."""
+    return ",".join(map(str, numbers)) or "-"
+
+
+def enter(sheet: Sheet, *entry: Any) -> Answer:
+    """N ROUNDING DEPTHS, with one number a station of a U; refused, N 0 -."""
+    refusal, rounding, depths, after = s.enter(sheet, *entry)
+    return refusal, rounding, in_a_list(depths), after
+
+
 def spaces(sheet: Sheet) -> Answer:
     """0 OPEN L COUNT SPACE SPACE ..."""
     return s.ACCEPTED, int(sheet.is_open), sheet.length, len(sheet.spaces), *map(of_space, sheet.spaces), sheet
@@ -151,7 +162,7 @@ def spaces(sheet: Sheet) -> Answer:
 def zones(sheet: Sheet, tonnage_length: int, under_deck_length: int, length: int, fore: int) -> Answer:
     """N PARTS LIST, with one number a section; refused, N 0 -. 'It needs no sheet, never answers 1.'"""
     refusal, parts, stations = m.zones(tonnage_length, under_deck_length, length, fore)
-    return refusal, parts, ",".join(map(str, stations)) or "-", sheet
+    return refusal, parts, in_a_list(stations), sheet
 
 
 def writef(sheet: Sheet, justified: int, at: int, size: int, fill: int) -> Answer:
@@ -167,7 +178,7 @@ def write(sheet: Sheet, justified: int, at: int, size: int) -> Answer:
 
 CALLS: dict[str, tuple[tuple[Reader, ...], Callable[..., Answer]]] = {
     "open": ((a_measure,), lambda sheet, length: s.open_sheet(length)),
-    "enter": ((an_id, an_id, a_code, a_code, a_measure, measures, measures, a_code, a_code), s.enter),
+    "enter": ((an_id, an_id, a_code, a_code, a_measure, measures, measures, a_code, a_code), enter),
     "tank": ((an_id, an_id, a_code, a_measure, a_measure, measures, measures), s.enter_tank),
     "zones": ((a_measure, a_measure, a_measure, a_measure), zones),
     "withdraw": ((an_id,), s.withdraw),

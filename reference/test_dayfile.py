@@ -101,7 +101,9 @@ class FileOfThePaper(OfFiles):
 
     def test_written_by_calls(self) -> None:
         session = survey.Session()
-        self.assertEqual([session.answer(line) for line in whole_sheet()], ["0"] * 6)
+        self.assertEqual(
+            [session.answer(line) for line in whole_sheet()], ["0", "0 6 0,0,0,0,0,0,0", "0 2 -", *["0 0 -"] * 3]
+        )
         self.assertEqual(f.write(session.sheet, 0, bytes(108), 0), (0, 108, EXAMPLE, session.sheet))
         self.assertEqual(session.answer("write 0 0 108"), f"0 108 {EXAMPLE.hex()}")
         self.assertEqual(session.answer(f"read {EXAMPLE.hex()}"), "0 0 0 0")

@@ -245,6 +245,122 @@ class Readings(unittest.TestCase):
         self.assertEqual(m.parts(B, 4800, 12000), 6)
 
 
+class Roundings(unittest.TestCase):
+    """'Each third interval now also gives its rounding', by figures worked out by hand and by whole numbers."""
+
+    LENGTHS = (*range(1, 2000), *range(29_900, 30_101), *range(149_900, 150_001))
+    DEPTHS = (*range(2000), *range(19_900, 20_001))
+
+    def by_remainder(self, divided: int, divisor: int) -> int:
+        """The remainder is lost where it is under a half of the divisor; else what it lacks is gained."""
+        remainder = divided % divisor
+        return divisor - remainder if 2 * remainder >= divisor else -remainder
+
+    def judged(self, divided: int, divisor: int, third: int, rounding: int) -> None:
+        """All that must hold of a third interval and its rounding; what is divided is 10L or D, by 3n or 3m."""
+        self.assertEqual(rounding, divisor * third - divided)
+        self.assertEqual(rounding, self.by_remainder(divided, divisor))
+        self.assertTrue(-divisor < 2 * rounding <= divisor)
+        exact = Fraction(divided, divisor)
+        self.assertEqual(third - Fraction(rounding, divisor), exact)
+        self.assertEqual((rounding > 0, rounding == 0, rounding < 0), (third > exact, third == exact, third < exact))
+        self.assertEqual(rounding == 0, divided % divisor == 0)
+        self.assertEqual(2 * rounding == divisor, exact.denominator == 2)  # a half goes up
+
+    def test_the_box(self) -> None:
+        """18 times 2667 is 48006, six more than 48000: up by 6/18 of a thousandth. 12 times 100 is 1200."""
+        self.assertEqual((m.third_of_length(4800, 6), m.rounding_of_length(4800, 6)), (2667, 6))
+        self.assertEqual((m.third_of_depth(1200, 4), m.rounding_of_depth(1200, 4)), (100, 0))
+        self.assertEqual(m.roundings(U, 4800, 4800, [1200] * 7), (6, (0, 0, 0, 0, 0, 0, 0)))
+
+    def test_figures_of_the_paper(self) -> None:
+        """The paper's third intervals, times 3n or 3m: 18 times 2778 is 50004, and so on."""
+        for length, parts, third, product, rounding in (
+            (5000, 6, 2778, 50_004, 4), (5001, 8, 2084, 50_016, 6), (25_000, 14, 5952, 249_984, -16),
+            (25_001, 16, 5209, 250_032, 22), (2000, 2, 3333, 19_998, -2), (2001, 4, 1668, 20_016, 6),
+            (3999, 4, 3333, 39_996, 6), (4000, 6, 2222, 39_996, -4), (150_000, 12, 41_667, 1_500_012, 12),
+        ):
+            self.assertEqual((3 * parts * third, product - 10 * length), (product, rounding))
+            self.assertEqual((m.third_of_length(length, parts), m.rounding_of_length(length, parts)), (third, rounding))
+        for depth, parts, third, product, rounding in ((1600, 4, 133, 1596, -4), (1601, 6, 89, 1602, 1)):
+            self.assertEqual((3 * parts * third, product - depth), (product, rounding))
+            self.assertEqual((m.third_of_depth(depth, parts), m.rounding_of_depth(depth, parts)), (third, rounding))
+
+    def test_laws_of_lengths(self) -> None:
+        for parts in range(2, 17, 2):
+            for length in self.LENGTHS:
+                third, rounding = m.third_of_length(length, parts), m.rounding_of_length(length, parts)
+                self.judged(10 * length, 3 * parts, third, rounding)
+
+    def test_laws_of_depths(self) -> None:
+        for parts in (4, 6):
+            for depth in self.DEPTHS:
+                third, rounding = m.third_of_depth(depth, parts), m.rounding_of_depth(depth, parts)
+                self.judged(depth, 3 * parts, third, rounding)
+
+    def test_all_that_there_are(self) -> None:
+        """Of a length even ones, since 10L and 3n are even; of 30 parts only tens. A half in 4, 8, 12 and 16 parts."""
+        of_lengths = {
+            2: {-2, 0, 2}, 4: {-4, -2, 0, 2, 4, 6}, 6: set(range(-8, 9, 2)), 8: set(range(-10, 13, 2)),
+            10: {-10, 0, 10}, 12: set(range(-16, 19, 2)), 14: set(range(-20, 21, 2)), 16: set(range(-22, 25, 2)),
+        }
+        for parts, expected in of_lengths.items():
+            self.assertEqual({m.rounding_of_length(length, parts) for length in self.LENGTHS}, expected)
+        for parts, expected in ((4, set(range(-5, 7))), (6, set(range(-8, 10)))):
+            self.assertEqual({m.rounding_of_depth(depth, parts) for depth in self.DEPTHS}, expected)
+
+    def test_beside_exact_ones_and_beside_halves(self) -> None:
+        """Of a length a hundredth more or less is ten parts, of a depth one; a half is rounded up, all of it."""
+        for parts, lengths, roundings in (
+            (16, (4800, 4801, 4799), (0, -10, 10)), (16, (12, 11, 13), (24, -14, 14)), (8, (6, 5, 7), (12, -2, 2)),
+            (4, (2001, 2000, 2002), (6, 4, -4)), (10, (3, 2, 4), (0, 10, -10)),
+        ):
+            self.assertEqual(tuple(m.rounding_of_length(length, parts) for length in lengths), roundings)
+        for parts, depths, roundings in (
+            (4, (0, 1, 5, 6, 7, 11, 12, 13), (0, -1, -5, 6, 5, 1, 0, -1)),
+            (6, (0, 1, 8, 9, 10, 17, 18, 19), (0, -1, -8, 9, 8, 1, 0, -1)),
+        ):
+            self.assertEqual(tuple(m.rounding_of_depth(depth, parts) for depth in depths), roundings)
+
+    def test_what_each_kind_passes_on(self) -> None:
+        """18 times 667 is 12006, 6 times 1002 is 6012 and 6 times 502 is 3012. An H or R has no third interval."""
+        self.assertEqual(m.roundings(U, 1200, 1200, [1200] * 7), (6, (0,) * 7))
+        self.assertEqual(m.roundings(U, 1200, 601, [7, 12, 13]), (2, (5, 0, -1)))
+        self.assertEqual(m.roundings(B, 1200, 1201, [7] * 7), (-4, ()))
+        self.assertEqual(m.roundings(S, 1200, 301, [7] * 3), (2, ()))
+        for kind in (H, R):
+            self.assertEqual(m.roundings(kind, 1200, 601, [7]), (0, ()))
+
+    def test_the_middle_station_fixes_m_for_all(self) -> None:
+        """1601 is 12 times 133 and 5, and 18 times 89 less 1; 1600 is 12 times 133 and 4, and 18 times 89 less 2."""
+        self.assertEqual(m.roundings_of_depths([1601, 1600, 1600]), (-5, -4, -4))
+        self.assertEqual(m.roundings_of_depths([1600, 1601, 1601]), (2, 1, 1))
+
+    def test_every_station_from_the_bow(self) -> None:
+        for depths, roundings in (
+            (range(17), (0, -1, -2, -3, -4, -5, 6, 5, 4, 3, 2, 1, 0, -1, -2, -3, -4)),
+            (range(1593, 1610), (9, 8, 7, 6, 5, 4, 3, 2, 1, 0, -1, -2, -3, -4, -5, -6, -7)),
+        ):
+            self.assertEqual(m.roundings_of_depths(depths), roundings)
+            self.assertEqual(m.roundings_of_depths(depths[2:]), roundings[2:])
+
+    def test_tonnages_do_not_change(self) -> None:
+        """A volume is had with the rounded third intervals: the exact ones and their roundings."""
+        rng = Random(4)
+        for _ in range(40):
+            space = figures.asked(rng, U, *figures.lengths_with(rng, U, 2 * rng.randint(1, 8)), 1999)
+            of_length, of_depths = m.roundings(U, *space[1:4])
+            parts, depth_parts = len(space.heights) - 1, len(space.breadths) // len(space.heights) - 1
+            areas = []
+            for station, (depth, rounding) in enumerate(zip(space.heights, of_depths)):
+                own = space.breadths[station * (depth_parts + 1):][:depth_parts + 1]
+                total = sum(times * breadth for times, breadth in zip(m.multipliers(depth_parts + 1), own))
+                areas.append(total * Fraction(depth + rounding, 3 * depth_parts))
+            total = sum(times * area for times, area in zip(m.multipliers(parts + 1), areas))
+            volume = total * Fraction(10 * space.length + of_length, 3 * parts) / 10**7
+            self.assertEqual(m.measure(*space), (0, floor(volume + Fraction(1, 2))))
+
+
 class Tanks(unittest.TestCase):
     """Tanks that follow the hull: zones, stations between two zones, sections and the volume."""
 

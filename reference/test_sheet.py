@@ -6,7 +6,7 @@ from contextlib import redirect_stderr, redirect_stdout
 from dataclasses import FrozenInstanceError, dataclass, replace
 from functools import cache, cached_property
 from itertools import combinations, product
-from typing import Any, Iterator
+from typing import Any, Iterator, Sequence
 from unittest import mock
 
 from reference import dayfile, measure as m, scripts, sheet as s, survey
@@ -64,6 +64,17 @@ class Step:
     def ends(self) -> tuple[int, ...]:
         """What an entry says of its ends, nothing where they are left out."""
         return tuple(self.arguments[7:])
+
+    @cached_property
+    def rounding(self) -> int:
+        """What an entry passes on of its length."""
+        return int(self.answer.split(" ")[1])
+
+    @cached_property
+    def roundings_of_depths(self) -> list[int]:
+        """What an entry passes on of its stations' depths."""
+        depths = self.answer.split(" ")[2]
+        return [] if depths == "-" else [int(depth) for depth in depths.split(",")]
 
     @cached_property
     def numbers(self) -> set[int]:
@@ -157,10 +168,10 @@ class FiguresOfThePaper(OfCalls):
         ):
             count = {U: (7, 35), S: (3, 3)}.get(kind, (1, 1))
             ends = (UPRIGHT, UPRIGHT) if kind == U else ()
-            number, sheet = s.enter(
+            *answer, sheet = s.enter(
                 sheet, id, within, kind, standing, length, [height] * count[0], [breadth] * count[1], *ends
             )
-            self.assertEqual(number, 0)
+            self.assertEqual(answer, {U: [0, 6, (0,) * 7], S: [0, 2, ()]}.get(kind, [0, 0, ()]))
         self.assertEqual(s.report(sheet, 0), (0, 12439, 12119, sheet))
         self.assertEqual((s.t(sheet.spaces), s.e(sheet.spaces), s.d(sheet.spaces)), (12801, 400, 320))
         self.assertEqual(s.counts(sheet), (0, 5, 0, sheet))
@@ -875,7 +886,7 @@ class ReadingsOfEnds(OfCalls):
     def test_after_all_the_others(self) -> None:
         """19 is given alone; beside any other number that one is given. Where 3 applies it isn't judged."""
         pointed = (POINTED, POINTED)
-        self.asks(enter(1, 0, U, 0, 600, *self.WITH_AREA, pointed), "1")
+        self.asks(enter(1, 0, U, 0, 600, *self.WITH_AREA, pointed), "1 0 -")
         self.accepted("open 1200", half(1, 1200, 1200, (UPRIGHT, INNER)))
         depths, breadths = self.WITH_AREA
 
@@ -958,6 +969,124 @@ class ReadingsOfEnds(OfCalls):
         own = tank_of_a_thousand(3, 1, 300, 0)
         self.asks(f"{own} 2 2", "? wrong number of words")
         self.accepted(own)
+
+
+class ReadingsOfRoundings(OfCalls):
+    """Say what the rounding did: what an entry passes on, by figures worked out by hand.
+
+    Of 601 in two parts, 6 times 1002 is 6012, two more than 6010; of the depths with m 4, 12 times 101 is 1212, one
+    more than 1211, 12 times 133 is 1596, two less than 1598, and 12 times 100 is five less than 1205.
+    """
+
+    UNDER_DECK = (U, 601, [1211, 1598, 1205], [9] * 15)
+    LEVELS = ((B, 1300, [9] * 7, [9] * 7), (S, 301, [9] * 3, [9] * 3))
+    BOXES = ((H, 601, [7], [7]), (R, 601, [7], [7]))
+    ALL = (UNDER_DECK, *LEVELS, *BOXES)
+
+    def entry(self, kind: int, *measures: Any, id: int = 9, within: int = 1, standing: int = PLAIN) -> str:
+        """An entry of these measures; a U is upright at both ends."""
+        return enter(id, within, kind, standing, *measures)
+
+    def under_deck(self, length: int, depths: Sequence[int], breadths: int = 5) -> str:
+        """The entry of a U with these depths and as many breadths at each."""
+        return enter(9, 0, U, PLAIN, length, depths, [9] * (breadths * len(depths)))
+
+    def test_whole_sheet(self) -> None:
+        """Up by 6/18 of a thousandth of a foot, the depths of the box exact; 6 times 2667 is 16002, of 16.00 ft."""
+        for line, answer in zip(
+            FiguresOfThePaper.WHOLE, ("0", "0 6 0,0,0,0,0,0,0", "0 2 -", "0 0 -", "0 0 -", "0 0 -")
+        ):
+            self.asks(line, answer)
+        self.asks("report 0", "0 12439 12119")
+
+    def test_every_kind(self) -> None:
+        """18 times 722 is 12996, four less than 13000; 6 times 502 is 3012. Hatchways and rooms have none."""
+        self.accepted("open 1300", divided(1, U, 1300, 600, 1200, 500))
+        for measures, answer in zip(self.ALL, ("0 2 1,-2,-5", "0 -4 -", "0 2 -", "0 0 -", "0 0 -")):
+            self.asks(self.entry(*measures), answer)
+            self.accepted("undo")
+
+    def test_every_station_from_the_bow(self) -> None:
+        """Of three stations and of seventeen, with m 4 and 6 by the middle one; the last one's is the last."""
+        self.accepted("open 30001")
+        self.asks(self.under_deck(600, [0, 1, 6]), "0 0 0,-1,6")
+        self.accepted("undo")
+        self.asks(self.under_deck(600, [6, 1, 0]), "0 0 6,-1,0")
+        self.accepted("undo")
+        self.asks(self.under_deck(30_001, range(17)), "0 -10 0,-1,-2,-3,-4,-5,6,5,4,3,2,1,0,-1,-2,-3,-4")
+        self.accepted("undo")
+        self.asks(self.under_deck(30_001, range(1593, 1610), 7), "0 -10 9,8,7,6,5,4,3,2,1,0,-1,-2,-3,-4,-5,-6,-7")
+        self.accepted("open 30000")
+        self.asks(self.under_deck(30_000, [*range(16), 20_000]), "0 0 0,-1,-2,-3,-4,-5,6,5,4,3,2,1,0,-1,-2,-3,4")
+
+    def test_the_middle_depth(self) -> None:
+        """1600 with m 4 is four over, 1601 with m 6 one under; the other stations' depths go by that m."""
+        self.accepted("open 1200")
+        self.asks(self.under_deck(600, [1601, 1600, 1602]), "0 0 -5,-4,6")
+        self.accepted("undo")
+        self.asks(self.under_deck(600, [1600, 1601, 1602], 7), "0 0 2,1,0")
+
+    def test_the_parts_of_its_own_division(self) -> None:
+        """A whole U of 20.01 ft in 6 parts, a step part in 4; a B by the tonnage length; an S at a tie in 4."""
+        self.accepted("open 2001")
+        self.asks(self.under_deck(2001, [12] * 7), "0 6 0,0,0,0,0,0,0")  # 18 times 1112 is 20016
+        self.accepted("open 4500")
+        self.asks(self.under_deck(2001, [12] * 5), "0 6 0,0,0,0,0")  # 12 times 1668 is 20016
+        self.asks(enter(2, 0, B, 0, 2001, [9] * 7, [9] * 7), "0 6 -")
+        self.asks(enter(3, 0, S, 0, 2000, [9] * 5, [9] * 5), "0 4 -")  # 12 times 1667 is 20004
+        self.accepted("open 20000")
+        self.asks(enter(1, 0, B, 0, 150_000, [9] * 13, [9] * 13), "0 12 -")
+
+    def test_refused(self) -> None:
+        """0 and none with every number that an entry can be refused with; accepted, none of the measures is exact."""
+        for measures in self.ALL:
+            self.asks(self.entry(*measures), "1 0 -")
+        self.accepted("open 1300", divided(1, U, 1300, 600, 1200, 500), hatchway(2, 20), *chain(1, 11, 7, 1))
+        self.accepted(mark(16, EXEMPT))
+        for kind, length, heights, breadths in self.ALL:
+            self.asks(self.entry(kind, length, heights, breadths, standing=4), "2 0 -")
+            self.asks(self.entry(kind, length, heights, [*breadths, 9]), "3 0 -")
+            self.asks(self.entry(kind, length, [*heights, 9], breadths), "3 0 -")
+            self.asks(self.entry(kind, length, heights, breadths, id=1), "4 0 -")
+            self.asks(self.entry(kind, length, heights, breadths, within=2, standing=DEDUCTED), "6 0 -")
+        _, length, depths, breadths = self.UNDER_DECK
+        self.asks(enter(9, 0, U, 0, length, depths, breadths, ()), "2 0 -")
+        self.asks(enter(9, 0, U, 0, 701, depths, breadths), "9 0 -")
+        self.asks(enter(9, 0, U, 0, length, depths, breadths, (POINTED, UPRIGHT)), "19 0 -")
+        for within, standing, height, number in (
+            (77, PLAIN, 7, 5), (17, PLAIN, 7, 7), (16, BALLAST, 7, 8), (1, PLAIN, 20_000, 9)
+        ):
+            self.asks(enter(9, within, R, standing, 601, [height], [30_000 if number == 9 else 7]), f"{number} 0 -")
+        self.accepted(*(room(id, 11) for id in range(20, 20 + s.PLACES - len(self.session.sheet.spaces))))
+        for measures in self.ALL:
+            self.asks(self.entry(*measures), "10 0 -")
+
+    def test_other_calls_answer_as_before(self) -> None:
+        """A tank in a U whose thirds aren't exact, with such measures itself; undo, redo, withdraw and mark.
+
+        The U has 1.08 ft times 1.01, four times 1.33 and 1.00 ft, times 1.002 ft: 7.93 cubic feet.
+        """
+        self.accepted("open 1300")
+        for line, answer in (
+            (self.entry(*self.UNDER_DECK), "0 2 1,-2,-5"), (tank(2, 9, 0, 301, 1, [1211, 1598, 1205], [1] * 15), "0"),
+            (tank(3, 9, 0, 301, 301, [1211, 1598, 1205], [1] * 15), "9"), ("undo", "0"), ("undo", "0"), ("redo", "0"),
+            ("redo", "0"), (withdraw(2), "0"), (withdraw(9), "0"), ("undo", "0"), (mark(9, 0), "0"),
+            (mark(9, 1), "6"), ("counts", "0 4 0"), ("spaces", "0 1 1300 1 9:0:1:0:8:601:4"),
+        ):
+            self.asks(line, answer)
+
+    def test_a_pointed_end(self) -> None:
+        """Its depth's third interval may be rounded to 0, which is below."""
+        self.accepted("open 1200")
+        self.asks(half(1, 5, 0, (POINTED, POINTED)), "0 0 -5,0,0")
+        self.asks(half(2, 0, 11, (POINTED, INNER)), "0 0 0,0,1")
+
+    def test_a_sheet_that_was_read(self) -> None:
+        """Nothing of a rounding is kept; a space entered anew passes on its own."""
+        self.accepted("open 1300", divided(1, U, 1300, 699, 1200, 500), self.entry(*self.UNDER_DECK))
+        self.asks(scripts.read(dayfile.bytes_of(self.session.sheet, 0)), "0 0 0 0")
+        self.asks(withdraw(9), "0")
+        self.asks(self.entry(*self.UNDER_DECK), "0 2 1,-2,-5")
 
 
 class ReadingsOfReports(OfCalls):
@@ -1092,8 +1221,8 @@ class Protocol(OfCalls):
             "enter 4 2 5 3 800 800 500", "withdraw 2", "spaces", "counts", "report 0", "write 0 0 4",
         )
         answers = [
-            "0", "0", "0", "0", "11", "0 1 4800 3 2:0:3:0:1280:1600:0 5:0:4:0:100:500:0 4:2:5:3:320:800:0", "0 3 0",
-            "13 0 0", "13 0 00000000",
+            "0", "0 2 -", "0 0 -", "0 0 -", "11",
+            "0 1 4800 3 2:0:3:0:1280:1600:0 5:0:4:0:100:500:0 4:2:5:3:320:800:0", "0 3 0", "13 0 0", "13 0 00000000",
         ]
         self.assertEqual(survey.answers("".join(line + "\n" for line in lines)).split("\n"), [*answers, ""])
 
@@ -1139,9 +1268,9 @@ class Protocol(OfCalls):
                 before = self.session.sheet
                 self.asks(line, remark)
                 self.assertEqual(self.session.sheet, before)
-        self.asks(f"enter 1 0 4 0 10 {longest} 5", "3")
-        self.asks(f"enter 1 0 4 0 10 5 {longest}", "3")
-        self.asks("enter 1 0 4 0 10 - -", "3")
+        self.asks(f"enter 1 0 4 0 10 {longest} 5", "3 0 -")
+        self.asks(f"enter 1 0 4 0 10 5 {longest}", "3 0 -")
+        self.asks("enter 1 0 4 0 10 - -", "3 0 -")
 
     def test_script_too_long(self) -> None:
         self.assertEqual(survey.answers("counts\n" + "#" * (2**20 - 7)), "0 0 0\n")
@@ -1286,7 +1415,7 @@ class Invariants(unittest.TestCase):
         """The spaces that the changes make on the sheet opened or read at the beginning; each is accepted."""
         session = Session()
         self.assertEqual(session.answer(beginning).split(" ")[0], "0")
-        self.assertEqual({session.answer(line) for line in changes} | {"0"}, {"0"})
+        self.assertEqual({session.answer(line).split(" ")[0] for line in changes} | {"0"}, {"0"})
         return session.sheet.spaces
 
     def test_accepted_changes_not_undone_give_the_standing_spaces(self) -> None:
@@ -1352,6 +1481,28 @@ class Invariants(unittest.TestCase):
             self.assertLessEqual(set(step.ends), {1, 2, 3})
             self.assertEqual(len(step.ends), 2)
 
+    def test_roundings(self) -> None:
+        """In whole numbers: 3n times the third interval less 10L, 3m times it less D; nothing of what is refused."""
+
+        def rounding(divided: int, divisor: int) -> int:
+            return divisor * ((2 * divided + divisor) // (2 * divisor)) - divided
+
+        for step in self.steps:
+            if step.call == "enter" and step.number is not None:
+                length, heights = step.arguments[4:6]
+                of_length, of_depths = 0, []
+                if step.number == 0 and step.new.kind in (U, B, S):
+                    of_length = rounding(10 * length, 3 * (len(heights) - 1))
+                if step.number == 0 and step.new.kind == U:
+                    of_depths = [rounding(depth, 3 * step.new.m) for depth in heights]
+                self.assertEqual((step.rounding, step.roundings_of_depths), (of_length, of_depths))
+                self.assertEqual(step.answer.split(" ")[2] == "-", not of_depths)
+
+    def test_tanks_pass_on_nothing(self) -> None:
+        for step in self.steps:
+            if step.call == "tank" and step.number is not None:
+                self.assertEqual(step.answer, str(step.number))
+
     def test_new_spaces_come_last(self) -> None:
         for step in self.steps:
             if step.call in ENTRIES and step.number == 0:
@@ -1385,8 +1536,8 @@ class StandardScript(unittest.TestCase):
         self.assertTrue(self.text.isascii())
         self.assertTrue(self.text.startswith("#"))
         self.assertTrue(self.text.endswith("\n"))
-        self.assertLessEqual(len(self.text), 980_000)
-        self.assertTrue(5_000 <= len(self.steps) <= 15_000, msg=len(self.steps))
+        self.assertLessEqual(len(self.text), 1_015_000)
+        self.assertTrue(5_000 <= len(self.steps) <= 16_000, msg=len(self.steps))
         self.assertEqual(survey.answers(self.text), "".join(step.answer + "\n" for step in self.steps))
 
     def test_reproducible(self) -> None:
@@ -1796,6 +1947,95 @@ class StandardScript(unittest.TestCase):
         expected = {"read back", (0, "undo", 0), (19, "undo", 0), (19, "redo", 0), (19, "undo", 12)}
         expected |= {(number, "on a sheet that was read") for number in (0, 19)}
         self.assertLessEqual(expected | {(0, "spaces", 0), (19, "counts", 0)}, found)
+
+    def test_roundings_of_lengths_in_the_script(self) -> None:
+        """Every kind in every number of parts: the least, those beside 0, 0 and the two greatest, up to a half."""
+        edges = {
+            2: {-2, 0, 2}, 4: {-4, -2, 0, 2, 4, 6}, 6: {-8, -2, 0, 2, 6, 8}, 8: {-10, -2, 0, 2, 10, 12},
+            10: {-10, 0, 10}, 12: {-16, -2, 0, 2, 16, 18}, 14: {-20, -2, 0, 2, 18, 20}, 16: {-22, -2, 0, 2, 22, 24},
+        }
+        found: dict[tuple[int, int, bool], set[int]] = {}
+        for step in self.of("enter", 0):
+            if step.new.kind in (U, B, S):
+                of_kind = step.new.kind, len(step.arguments[5]) - 1, step.new.length == step.before.length
+                found.setdefault(of_kind, set()).add(step.rounding)
+        for parts, wanted in edges.items():
+            step_part, whole = found.get((U, parts, False), set()), found.get((U, parts, True), set())
+            of_superstructure = found[S, parts, False]
+            self.assertLessEqual(wanted, of_superstructure)
+            self.assertLessEqual({max(wanted)} if parts > 4 else wanted, step_part)
+            if parts > 4:
+                self.assertLessEqual(wanted, whole)
+                self.assertLessEqual(wanted, found[B, parts, False])
+        self.assertEqual({parts for kind, parts, whole in found if kind == U and whole}, {6, 8, 10, 12, 14, 16})
+        of_lengths = {
+            (step.new.length, len(step.arguments[5]) - 1): step.rounding
+            for step in self.of("enter", 0) if step.new.kind == U
+        }
+        self.assertLessEqual({
+            (100, 6): 8, (3999, 4): 6, (4000, 6): -4, (30_000, 16): 0, (30_001, 16): -10, (149_999, 16): 10,
+            (150_000, 16): 0,
+        }.items(), of_lengths.items())
+
+    def test_roundings_of_depths_in_the_script(self) -> None:
+        """Every one with m 4 and 6, at each of three stations; up to 17 stations, neighbours rounded differently."""
+        found, alike, middles = set(), set(), set()
+        for step in self.of("enter", 0):
+            if step.new.kind == U:
+                of_depths, own_m = step.roundings_of_depths, step.new.m
+                if len(of_depths) == 3:
+                    found |= {(own_m, station, rounding) for station, rounding in enumerate(of_depths)}
+                pairs = zip(of_depths, of_depths[1:])
+                alike.add((len(of_depths), own_m, any(one == other for one, other in pairs)))
+                middles.add((own_m, m.middle_depth(step.arguments[5]), step.arguments[5][-1] > 1600))
+        for own_m, roundings in ((4, range(-5, 7)), (6, range(-8, 10))):
+            self.assertEqual({of for of in found if of[0] == own_m}, set(product((own_m,), range(3), roundings)))
+            self.assertLessEqual({(stations, own_m, False) for stations in range(3, 18, 2)}, alike)
+        self.assertLessEqual({(4, 1600, True), (6, 1601, True), (6, 1601, False)}, middles)
+
+    def would_pass_on(self, step: Step) -> tuple[bool, bool]:
+        """Whether a refused entry has a length and a depth of a U that aren't exact, if they can be judged."""
+        kind, length, heights, breadths = step.arguments[2], *step.arguments[4:7]
+        parts = m.parts(kind, step.before.length, length)
+        depth_parts = len(breadths) // max(len(heights), 1) - 1
+        inexact = kind == U and depth_parts > 0 and any(depth % (3 * depth_parts) for depth in heights)
+        return parts > 0 and 10 * length % (3 * parts) > 0, inexact
+
+    def test_refused_roundings_in_the_script(self) -> None:
+        """With every number that a U, B or S can have one whose length isn't exact, of a U some depth neither."""
+        found = {(step.number, step.new.kind, *self.would_pass_on(step)) for step in self.of("enter") if step.number}
+        for number in (1, 2, 3, 4, 6, 9, 10, 19):
+            self.assertIn((number, U, True, True), found)
+        for number, kind in product((1, 2, 3, 4, 6, 10), (B, S)):
+            self.assertIn((number, kind, True, False), found)
+        self.assertLessEqual({(number, R, False, False) for number in range(1, 11)}, found)
+        self.assertLessEqual({(number, H, False, False) for number in (1, 2, 3, 4, 6, 10)}, found)
+
+    def test_rounded_ones_undone_and_made_again_in_the_script(self) -> None:
+        """A U, B and S with a rounding; a tank in a U with a rounding at each of its stations."""
+        changes = [step for step in self.steps if step.call not in LOOKS]
+        found = set()
+        for entered, after, behind in zip(changes, changes[1:], changes[2:]):
+            if entered.call == "enter" and entered.number == 0 and entered.rounding:
+                found.add((entered.new.kind, f"{after.call} {after.answer}", f"{behind.call} {behind.answer}"))
+                if after.call == "tank" and all(entered.roundings_of_depths):
+                    found.add(f"tank {after.answer}")
+        self.assertLessEqual({(kind, "undo 0", "redo 0") for kind in (U, B, S)}, found)
+        self.assertIn("tank 0", found)
+
+    def test_random_roundings(self) -> None:
+        """Calls at random have U, B and S in every number of parts, rounded up, down and not, and all of depths."""
+        found, depths = set(), set()
+        for seed in range(12):
+            for step in steps(scripts.script(seed, 1000)):
+                if step.call == "enter" and step.number == 0 and step.new.kind in (U, B, S):
+                    sign = (step.rounding > 0) - (step.rounding < 0)
+                    found |= {(step.new.kind, len(step.arguments[5]) - 1), (step.new.kind, f"sign {sign}")}
+                    depths |= {(step.new.m, rounding) for rounding in step.roundings_of_depths}
+        parts = {(U, number) for number in range(2, 17, 2)} | {(B, number) for number in range(6, 17, 2)}
+        parts |= {(S, number) for number in range(2, 17, 2)}
+        self.assertEqual(found, parts | set(product((U, B, S), ("sign -1", "sign 0", "sign 1"))))
+        self.assertEqual(depths, set(product((4,), range(-5, 7))) | set(product((6,), range(-8, 10))))
 
     def test_sheets_opened_again(self) -> None:
         opened = {(step.before.is_open, bool(step.before.spaces), step.number) for step in self.of("open")}

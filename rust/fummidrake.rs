@@ -80,6 +80,26 @@ pub struct Changed {
     pub sheet: Sheet,
 }
 
+/// What the rounding of third intervals did: above zero where it was up, zero where the third interval is exact, else below. That of a
+/// length L in n parts is 3n x third - 10 L, in parts of 1/(3n) of a thousandth of a foot; of a depth D in m parts 3m x third - D, in parts
+/// of 1/(3m) of a hundredth. `length` is a U's, B's or S's, 0 for an H or R; `depths` are those at a U's stations, from the bow, and 0 in
+/// every other place. Where the entry was refused all are 0; a tank hands on none.
+#[repr(C)]
+#[derive(Clone, Copy, Debug, PartialEq, Eq)]
+pub struct Roundings {
+    pub length: i8,
+    pub depths: [i8; 17],
+}
+
+/// The number, what the rounding did, and the sheet after the call: where refused, as it came.
+#[repr(C)]
+#[must_use = "the sheet after the call is in it, and whether it was refused"]
+pub struct Entering {
+    pub number: u8,
+    pub roundings: Roundings,
+    pub sheet: Sheet,
+}
+
 /// How many changes are open, and the sheet as it came.
 #[repr(C)]
 #[must_use = "the sheet is in it"]
@@ -145,6 +165,8 @@ const _: () = {
     assert!(size_of::<OpenChange>() == 32);
     assert!(size_of::<Sheet>() == 5280);
     assert!(size_of::<Changed>() == 5288);
+    assert!(size_of::<Roundings>() == 18);
+    assert!(size_of::<Entering>() == 5304);
     assert!(size_of::<Counted>() == 5296);
     assert!(size_of::<Reported>() == 5304);
     assert!(size_of::<LaidOut>() == 24);
@@ -165,7 +187,7 @@ mod calls {
             heights_count: usize,
             breadths: *const u32,
             breadths_count: usize,
-        ) -> Changed;
+        ) -> Entering;
         pub fn fummidrake_enter_tank(
             sheet: Sheet,
             tank: Tank,
@@ -210,8 +232,9 @@ impl Sheet {
 
     /// Enters a space from its offsets: for a U the depths at the stations, and the breadths station by station from the bow, at each
     /// from above; for a B or S one height and one breadth a station; for an H or R one of each. A pointed end of a U has no area: its
-    /// depth or all its breadths are 0, or its third interval of depth rounds to 0. Refused with 1 to 10, 19.
-    pub fn enter(self, entry: Entry, heights: &[u32], breadths: &[u32]) -> Changed {
+    /// depth or all its breadths are 0, or its third interval of depth rounds to 0. The answer says too what the rounding of its third
+    /// intervals did. Refused with 1 to 10, 19.
+    pub fn enter(self, entry: Entry, heights: &[u32], breadths: &[u32]) -> Entering {
         // SAFETY: each pointer and its count are one slice's.
         unsafe {
             calls::fummidrake_enter(self, entry, heights.as_ptr(), heights.len(), breadths.as_ptr(), breadths.len())

@@ -1,6 +1,6 @@
 /* What nothing proves across the boundary to C, tried: that the header's fields are the source's, that the calls stay inside a
- * pointer and its length, that any bytes are a sheet, and that a call in place does what the same call by value does. Prints nothing,
- * or the first fault.
+ * pointer and its length, that any bytes are a sheet, that what the rounding did arrives with its sign, and that a call in place does
+ * what the same call by value does. Prints nothing, or the first fault.
  *
  * Run at the root of the project, after `rt staticlib fummidrake`: see `make test`. */
 #define _DEFAULT_SOURCE
@@ -48,7 +48,7 @@ static uint8_t *placed(room r, size_t bytes, bool at_end) {
 
 static fummidrake_sheet entered(fummidrake_sheet sheet, fummidrake_entry entry, const uint32_t *heights, size_t heights_count,
                                 const uint32_t *breadths, size_t breadths_count) {
-    fummidrake_changed answer = fummidrake_enter(sheet, entry, heights, heights_count, breadths, breadths_count);
+    fummidrake_entering answer = fummidrake_enter(sheet, entry, heights, heights_count, breadths, breadths_count);
     HOLDS(answer.number == 0);
     return answer.sheet;
 }
@@ -104,6 +104,13 @@ static bool same_sheet(const fummidrake_sheet *a, const fummidrake_sheet *b) {
     return same;
 }
 
+static bool same_roundings(fummidrake_roundings a, fummidrake_roundings b) {
+    return a.length == b.length && memcmp(a.depths, b.depths, sizeof a.depths) == 0;
+}
+
+/* What a refused entry hands on. */
+static const fummidrake_roundings no_roundings = {0, {0}};
+
 /* The fields of a sheet as the header has them are what the calls say of it. */
 static void fields(void) {
     fummidrake_sheet sheet = fummidrake_mark(three_spaces(), 2, 3).sheet;
@@ -137,8 +144,9 @@ static void lists(void) {
         fummidrake_entry entry = {1, 0, (uint8_t)any(7), 0, (uint8_t)any(5), (uint8_t)any(5), 4800};
         if (any(2))
             entry.length = (uint32_t)any(9000);
-        uint8_t number = fummidrake_enter(sheet, entry, hs, h, bs, b).number;
-        HOLDS(number <= 10 || number == 19);
+        fummidrake_entering answer = fummidrake_enter(sheet, entry, hs, h, bs, b);
+        HOLDS(answer.number <= 10 || answer.number == 19);
+        HOLDS(answer.number == 0 || same_roundings(answer.roundings, no_roundings));
     }
 }
 
@@ -244,16 +252,21 @@ static void same_in_place(uint8_t number, fummidrake_sheet left, fummidrake_chan
     HOLDS(number == answer.number && same_sheet(&left, &answer.sheet));
 }
 
+/* The same of an entry, which answers what the rounding did too. */
+static void entered_in_place(fummidrake_entering_on values, fummidrake_sheet left, fummidrake_entering answer) {
+    HOLDS(values.number == answer.number && same_roundings(values.roundings, answer.roundings) && same_sheet(&left, &answer.sheet));
+}
+
 static void changes_in_place(fummidrake_sheet sheet, fummidrake_entry entry, uint8_t standing) {
     uint32_t ten = 1000, tens[15];
     for (size_t i = 0; i < 15; i++)
         tens[i] = ten;
     fummidrake_sheet left = sheet;
-    uint8_t number = fummidrake_enter_on(&left, entry, &ten, 1, &ten, 1);
-    same_in_place(number, left, fummidrake_enter(sheet, entry, &ten, 1, &ten, 1));
+    fummidrake_entering_on values = fummidrake_enter_on(&left, entry, &ten, 1, &ten, 1);
+    entered_in_place(values, left, fummidrake_enter(sheet, entry, &ten, 1, &ten, 1));
     left = sheet;
     fummidrake_tank tank = {entry.id, entry.within, standing, 800, 0};
-    number = fummidrake_enter_tank_on(&left, tank, tens, 3, tens, 15);
+    uint8_t number = fummidrake_enter_tank_on(&left, tank, tens, 3, tens, 15);
     same_in_place(number, left, fummidrake_enter_tank(sheet, tank, tens, 3, tens, 15));
     left = sheet;
     number = fummidrake_withdraw_on(&left, entry.id);
@@ -309,12 +322,62 @@ static fummidrake_sheet without_under_deck(void) {
 static uint8_t answered(const offsets *given, uint8_t fore_end, uint8_t aft_end) {
     fummidrake_sheet sheet = without_under_deck(), left = sheet;
     fummidrake_entry entry = under_deck(fore_end, aft_end);
-    uint8_t number = fummidrake_enter_on(&left, entry, given->depths, 7, given->breadths, 35);
-    same_in_place(number, left, fummidrake_enter(sheet, entry, given->depths, 7, given->breadths, 35));
-    if (number == 0)
+    fummidrake_entering_on values = fummidrake_enter_on(&left, entry, given->depths, 7, given->breadths, 35);
+    entered_in_place(values, left, fummidrake_enter(sheet, entry, given->depths, 7, given->breadths, 35));
+    if (values.number == 0)
         sheet = entered(sheet, under_deck(UPRIGHT, UPRIGHT), given->depths, 7, given->breadths, 35);
     HOLDS(same_sheet(&left, &sheet));
-    return number;
+    return values.number;
+}
+
+/* An entry on a sheet where nothing stands answers this number and these roundings, by value and in place. */
+static void rounds(uint32_t tonnage_length, fummidrake_entry entry, const uint32_t *heights, size_t heights_count,
+                   const uint32_t *breadths, size_t breadths_count, uint8_t number, fummidrake_roundings expected) {
+    fummidrake_sheet sheet = fummidrake_open(tonnage_length).sheet, left = sheet;
+    fummidrake_entering answer = fummidrake_enter(sheet, entry, heights, heights_count, breadths, breadths_count);
+    HOLDS(answer.number == number && same_roundings(answer.roundings, expected));
+    entered_in_place(fummidrake_enter_on(&left, entry, heights, heights_count, breadths, breadths_count), left, answer);
+}
+
+/* Of a U with 4 parts of depth. Its length has 6 parts: 48000 / 18 is 2666.7, so 18 x 2667 - 48000 = 6. The box has 1200 / 12 = 100 at
+ * each station, exactly. Then to the nearest, and a half up: 1201 goes to 100, and 1200 - 1201 = -1; 1205 the same, -5; 1206 / 12 is 100.5
+ * and goes to 101, and 1212 - 1206 = 6; 1207 the same, 5; 1211, 1; and 5 goes to 0, and 0 - 5 = -5. Refused, by a pointed end with area
+ * (19), a missing depth (3) or an id over 9,999 (4), it hands on none. */
+static void roundings_of_under_deck(void) {
+    offsets given = box();
+    fummidrake_entry entry = under_deck(UPRIGHT, UPRIGHT), no_id = entry;
+    fummidrake_roundings of_box = {6, {0}}, both_ways = {6, {0, -1, -5, 6, 5, 1, -5}};
+    uint32_t depths[7] = {1200, 1201, 1205, 1206, 1207, 1211, 5};
+    no_id.id = 10000;
+    rounds(4800, entry, given.depths, 7, given.breadths, 35, 0, of_box);
+    rounds(4800, entry, depths, 7, given.breadths, 35, 0, both_ways);
+    rounds(4800, under_deck(POINTED, UPRIGHT), depths, 7, given.breadths, 35, 19, no_roundings);
+    rounds(4800, entry, depths, 6, given.breadths, 35, 3, no_roundings);
+    rounds(4800, no_id, depths, 7, given.breadths, 35, 4, no_roundings);
+}
+
+/* Of a U with the most stations, 17, and 6 parts of depth: every place is used. 250200 / 48 is 5212.5 and goes to 5213, and 48 x 5213 -
+ * 250200 = 24, the greatest there is; 250150 / 48 is 5211.5 less a bit and goes to 5211, and 250128 - 250150 = -22. The depths are 1700 to
+ * 1716: the first goes to 94, and 18 x 94 - 1700 = -8; 1701 / 18 is 94.5 and goes to 95, as all the others do: 1710 less each. */
+static void roundings_of_most_stations(void) {
+    uint32_t depths[17], breadths[17 * 7] = {0};
+    fummidrake_roundings expected = {24, {-8, 9, 8, 7, 6, 5, 4, 3, 2, 1, 0, -1, -2, -3, -4, -5, -6}};
+    for (uint32_t i = 0; i < 17; i++)
+        depths[i] = 1700 + i;
+    rounds(25020, (fummidrake_entry){1, 0, 1, 0, INNER, INNER, 25020}, depths, 17, breadths, 17 * 7, 0, expected);
+    expected.length = -22;
+    rounds(25015, (fummidrake_entry){1, 0, 1, 0, INNER, INNER, 25015}, depths, 17, breadths, 17 * 7, 0, expected);
+}
+
+/* Of the other kinds there are none of depths. The length of a B has the tonnage length's 6 parts: 48010 / 18 goes to 2667, and 48006 -
+ * 48010 = -4. An S of 16 ft has 2: 16000 / 6 goes to 2667, and 16002 - 16000 = 2. A hatchway isn't divided, though 16 ft would be. */
+static void roundings_of_levels(void) {
+    uint32_t feet[7] = {701, 702, 703, 704, 705, 706, 707};
+    fummidrake_roundings between_deck = {-4, {0}}, superstructure = {2, {0}};
+    rounds(4800, (fummidrake_entry){1, 0, 2, 0, 0, 0, 4801}, feet, 7, feet, 7, 0, between_deck);
+    rounds(4800, (fummidrake_entry){1, 0, 3, 0, 0, 0, 1600}, feet, 3, feet, 3, 0, superstructure);
+    rounds(4800, (fummidrake_entry){1, 0, 4, 0, 0, 0, 1600}, feet, 1, feet, 1, 0, no_roundings);
+    rounds(4800, (fummidrake_entry){1, 0, 2, 0, 0, 0, 4801}, feet, 6, feet, 7, 3, no_roundings);
 }
 
 /* A pointed end is refused with 19 where it has area. It has none with breadths that are all 0, nor with a depth up to 5, of which the
@@ -417,6 +480,9 @@ int main(void) {
     sections();
     zones();
     whole_under_deck();
+    roundings_of_under_deck();
+    roundings_of_most_stations();
+    roundings_of_levels();
     pointed_ends();
     judged_last();
     other_ends();

@@ -22,7 +22,7 @@ VERSION = Path('VERSION')
 # Each plain type with its name in C and its size, which is its alignment too.
 PLAIN = {
     'u8': ('uint8_t', 1), 'u16': ('uint16_t', 2), 'u32': ('uint32_t', 4), 'u64': ('uint64_t', 8), 'usize': ('size_t', 8),
-    'bool': ('bool', 1),
+    'i8': ('int8_t', 1), 'bool': ('bool', 1),
 }
 SHEET = 'Sheet'
 MUST_USE = 'FUMMIDRAKE_MUST_USE'

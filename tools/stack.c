@@ -28,6 +28,9 @@ typedef struct {
     uint16_t id;
 } input;
 
+/* An input's entry and offsets, as a call takes them after the sheet. */
+#define ENTRY(of) (of).entry, (of).heights, (of).heights_count, (of).breadths, (of).breadths_count
+
 static input given;
 static uint32_t section_depths[SECTIONS], section_breadths[SECTION_BREADTHS];
 static const fummidrake_tank tank = {9999, 2, 0, TANK_LENGTH, TANK_FORE};
@@ -35,6 +38,7 @@ static const fummidrake_tank tank = {9999, 2, 0, TANK_LENGTH, TANK_FORE};
 static uint8_t day[DAY], buffer[DAY];
 static uint8_t number;
 static fummidrake_changed changed;
+static fummidrake_entering entered;
 static fummidrake_counted counted;
 static fummidrake_reported reported;
 static fummidrake_laid_out laid_out;
@@ -54,12 +58,20 @@ static size_t size;
         number = fummidrake_##name##_on(&given.sheet __VA_ARGS__);                                                             \
     }
 
-CHANGES(enter, , given.entry, given.heights, given.heights_count, given.breadths, given.breadths_count)
 CHANGES(enter_tank, , tank, section_depths, SECTIONS, section_breadths, SECTION_BREADTHS)
 CHANGES(withdraw, , given.id)
 CHANGES(mark, , given.id, 1)
 CHANGES(undo, )
 CHANGES(redo, )
+
+static void enter(void) {
+    entered = fummidrake_enter(given.sheet, ENTRY(given));
+    number = entered.number;
+}
+
+static void enter_on(void) {
+    number = fummidrake_enter_on(&given.sheet, ENTRY(given)).number;
+}
 
 static void open(void) {
     changed = fummidrake_open(LENGTH);
@@ -230,7 +242,7 @@ static void accepted(uint8_t answered) {
 
 /* The number of the entry, by which the input's own sheet stays as it is. */
 static uint8_t number_of(input made) {
-    return fummidrake_enter_on(&made.sheet, made.entry, made.heights, made.heights_count, made.breadths, made.breadths_count);
+    return fummidrake_enter_on(&made.sheet, ENTRY(made)).number;
 }
 
 /* The space with an id: a superstructure, the U, a superstructure with a chain of rooms, and in the lowest of these, 9, the others. */
@@ -248,7 +260,7 @@ static fummidrake_sheet sheet_of(uint16_t count) {
     fummidrake_sheet sheet = fummidrake_open(LENGTH).sheet;
     for (uint16_t id = 1; id <= count; id++) {
         input next = entering_space(sheet, id);
-        accepted(fummidrake_enter_on(&sheet, next.entry, next.heights, next.heights_count, next.breadths, next.breadths_count));
+        accepted(fummidrake_enter_on(&sheet, ENTRY(next)).number);
     }
     return sheet;
 }

@@ -1,6 +1,6 @@
 //! The same calls as the proved ones: a sheet goes in by value, and comes back with the answer. None is inlined, as none of theirs
 //! can be.
-use super::{Counts, Entry, Read, Refusal, Report, Sheet, Tank, Unread};
+use super::{Counts, Entry, Read, Refusal, Report, Roundings, Sheet, Tank, Unread};
 
 /// What a call answers, and the sheet after it.
 pub struct After<A> {
@@ -17,7 +17,7 @@ pub fn open(length: u32) -> Changed {
 }
 
 #[inline(never)]
-pub fn enter(mut sheet: Sheet, entry: Entry, heights: &[u32], breadths: &[u32]) -> Changed {
+pub fn enter(mut sheet: Sheet, entry: Entry, heights: &[u32], breadths: &[u32]) -> After<Result<Roundings, Refusal>> {
     After { answer: sheet.enter(entry, heights, breadths), sheet }
 }
 

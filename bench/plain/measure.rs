@@ -22,11 +22,21 @@ pub enum End {
     Pointed,
 }
 
-/// A space measured: its tonnage, and of a U the parts of depth and the areas at its fore and aft end; 0 of any other.
+/// A space measured: its tonnage and roundings, and of a U the parts of depth and the areas at its fore and aft end; 0 of any other.
+#[derive(Default)]
 pub struct Measured {
     pub tonnage: u32,
+    pub roundings: Roundings,
     pub m: u8,
     pub end_areas: [u64; 2],
+}
+
+/// What the rounding of third intervals did (T-04 of document 02), in parts of each one's divisor: of a U's, B's or S's length, and of the
+/// depth at each station of a U; 0 where there is none.
+#[derive(Clone, Copy, Default)]
+pub struct Roundings {
+    pub length: i8,
+    pub depths: [i8; MOST_STATIONS],
 }
 
 const SHORTEST: u32 = 100;
@@ -97,11 +107,10 @@ pub fn measured(
     if breadths.len() != at_station * heights.len() {
         return Err(Refusal::NotTheNumberAsked);
     }
-    let without_sections = |tonnage| Measured { tonnage, m: 0, end_areas: [0; 2] };
     Ok(match kind {
         Kind::UnderDeck => under_deck(length, heights, breadths, at_station),
-        Kind::BetweenDeck | Kind::Superstructure => without_sections(level(length, heights, breadths)),
-        Kind::Hatchway | Kind::Room => without_sections(hatchway_or_room(length, heights[0], breadths[0])),
+        Kind::BetweenDeck | Kind::Superstructure => level(length, heights, breadths),
+        Kind::Hatchway | Kind::Room => hatchway_or_room(length, heights[0], breadths[0]),
     })
 }
 
@@ -185,47 +194,81 @@ fn with_multipliers<T: Copy + Into<u64>>(values: &[T]) -> u64 {
     values.windows(3).step_by(2).map(of_two_parts).sum()
 }
 
-/// The third interval of a length with so many stations, in thousandths of a foot.
-fn third_of_length(length: u32, stations: usize) -> u64 {
-    nearest(10 * u64::from(length), 3 * (stations as u64 - 1))
+/// A third interval to the nearest whole number, and its rounding: how many parts of the divisor were added to the exact fraction for
+/// that; below 0 where they were taken off.
+pub struct Third {
+    nearest: u64,
+    rounding: i8,
+}
+
+impl Third {
+    /// Of a length with so many stations, in thousandths of a foot.
+    pub fn of_length(length: u32, stations: usize) -> Third {
+        Third::divided(10 * length, 3 * (stations as u32 - 1))
+    }
+
+    /// Of a depth in so many parts, in hundredths of a foot.
+    fn of_depth(depth: u32, parts: usize) -> Third {
+        Third::divided(depth, 3 * parts as u32)
+    }
+
+    fn divided(dividend: u32, divisor: u32) -> Third {
+        let nearest = nearest(dividend.into(), divisor.into());
+        let rounding = nearest as i64 * i64::from(divisor) - i64::from(dividend);
+        // at the most half the divisor, up or down: 24 parts
+        Third { nearest, rounding: rounding as i8 }
+    }
+}
+
+/// The section at a station of a U or a tank.
+pub struct Section {
+    pub area: u64,
+    /// Of its depth.
+    rounding: i8,
 }
 
 fn under_deck(length: u32, depths: &[u32], breadths: &[u32], at_station: usize) -> Measured {
+    let third = Third::of_length(length, depths.len());
+    let mut roundings = Roundings { length: third.rounding, ..Roundings::default() };
     let mut areas = [0; MOST_STATIONS];
-    for (area, of_station) in areas.iter_mut().zip(areas_of_sections(depths, breadths, at_station)) {
-        *area = of_station;
+    let stations = areas.iter_mut().zip(&mut roundings.depths);
+    for ((area, rounding), section) in stations.zip(sections(depths, breadths, at_station)) {
+        *area = section.area;
+        *rounding = section.rounding;
     }
     let aft = depths.len() - 1;
-    Measured { tonnage: tons_over(length, &areas[..=aft]), m: at_station as u8 - 1, end_areas: [areas[0], areas[aft]] }
+    let end_areas = [areas[0], areas[aft]];
+    Measured { tonnage: tons_over(third, &areas[..=aft]), roundings, m: at_station as u8 - 1, end_areas }
 }
 
-/// The area of each section with its depth and breadths.
-pub fn areas_of_sections<'a>(
-    depths: &'a [u32],
-    breadths: &'a [u32],
-    at_section: usize,
-) -> impl Iterator<Item = u64> + 'a {
-    let parts_of_depth = at_section as u64 - 1;
-    let area = move |(&depth, of_section): (&u32, &[u32])| {
-        with_multipliers(of_section) * nearest(depth.into(), 3 * parts_of_depth)
+/// Each section with its depth and breadths.
+pub fn sections<'a>(depths: &'a [u32], breadths: &'a [u32], at_section: usize) -> impl Iterator<Item = Section> + 'a {
+    let section = move |(&depth, of_section): (&u32, &[u32])| {
+        let third = Third::of_depth(depth, at_section - 1);
+        Section { area: with_multipliers(of_section) * third.nearest, rounding: third.rounding }
     };
-    depths.iter().zip(breadths.chunks_exact(at_section)).map(area)
+    depths.iter().zip(breadths.chunks_exact(at_section)).map(section)
 }
 
-/// The tonnage of a length with these areas at its stations.
-pub fn tons_over(length: u32, areas: &[u64]) -> u32 {
-    nearest(with_multipliers(areas) * third_of_length(length, areas.len()), CUBIC_FOOT_BY_THIRDS) as u32
+/// The tonnage of a length with this third interval and these areas at its stations.
+pub fn tons_over(third: Third, areas: &[u64]) -> u32 {
+    nearest(with_multipliers(areas) * third.nearest, CUBIC_FOOT_BY_THIRDS) as u32
 }
 
 /// A between-deck level or a superstructure: an area, times the plain mean of the heights.
-fn level(length: u32, heights: &[u32], breadths: &[u32]) -> u32 {
-    let area = with_multipliers(breadths) * third_of_length(length, breadths.len());
+fn level(length: u32, heights: &[u32], breadths: &[u32]) -> Measured {
+    let third = Third::of_length(length, breadths.len());
+    let area = with_multipliers(breadths) * third.nearest;
     let sum_of_heights: u32 = heights.iter().sum();
-    nearest(area * u64::from(sum_of_heights), CUBIC_FOOT_BY_THIRDS * heights.len() as u64) as u32
+    let tonnage = nearest(area * u64::from(sum_of_heights), CUBIC_FOOT_BY_THIRDS * heights.len() as u64) as u32;
+    let roundings = Roundings { length: third.rounding, ..Roundings::default() };
+    Measured { tonnage, roundings, ..Measured::default() }
 }
 
-fn hatchway_or_room(length: u32, height: u32, breadth: u32) -> u32 {
-    nearest(u64::from(length) * u64::from(breadth) * u64::from(height), CUBIC_FOOT) as u32
+/// It isn't divided: there is no third interval.
+fn hatchway_or_room(length: u32, height: u32, breadth: u32) -> Measured {
+    let volume = u64::from(length) * u64::from(breadth) * u64::from(height);
+    Measured { tonnage: nearest(volume, CUBIC_FOOT) as u32, ..Measured::default() }
 }
 
 /// a / b to the nearest whole number; a half goes up.

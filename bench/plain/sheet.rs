@@ -1,7 +1,7 @@
 //! The sheet and its changes, made in place ("The sheet and its changes").
 use super::gross::{self, Report};
 use super::history::{Change, History};
-use super::measure::{is_tonnage_length, measured, End, Kind, Measured};
+use super::measure::{is_tonnage_length, measured, End, Kind, Measured, Roundings};
 use super::rules::{judge_tank, level_of_entry, place_to_mark, place_to_withdraw, Row, Space, Standing, PLACES};
 use super::tanks::{self, Tank};
 use super::Refusal;
@@ -59,8 +59,8 @@ impl Sheet {
         self.history.clear();
     }
 
-    /// Enters a space from its offsets; 1 to 10, 19.
-    pub fn enter(&mut self, entry: Entry, heights: &[u32], breadths: &[u32]) -> Result<(), Refusal> {
+    /// Enters a space from its offsets, and says what the rounding of its third intervals did; 1 to 10, 19.
+    pub fn enter(&mut self, entry: Entry, heights: &[u32], breadths: &[u32]) -> Result<Roundings, Refusal> {
         self.opened()?;
         let standing = Standing::of_code(entry.standing).ok_or(Refusal::OutsideItsRange)?;
         let kind = Kind::of_code(entry.kind).ok_or(Refusal::OutsideItsRange)?;
@@ -68,7 +68,8 @@ impl Sheet {
         if kind == Kind::UnderDeck && ends.contains(&None) {
             return Err(Refusal::OutsideItsRange);
         }
-        let Measured { tonnage, m, end_areas } = measured(kind, self.length, entry.length, heights, breadths)?;
+        let Measured { tonnage, roundings, m, end_areas } =
+            measured(kind, self.length, entry.length, heights, breadths)?;
         let within = if kind == Kind::Room { entry.within } else { 0 };
         let mut space = Space { id: entry.id, within, kind, standing, level: 1, m, tonnage, length: entry.length };
         space.level = level_of_entry(self.standing(), self.length, &space)?;
@@ -77,7 +78,7 @@ impl Sheet {
         }
         self.put_last(space);
         self.history.note(Change::Entered(space));
-        Ok(())
+        Ok(roundings)
     }
 
     /// Enters a tank that follows the hull from its sections; 1 to 6, 9, 10, 29.

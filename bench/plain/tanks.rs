@@ -1,6 +1,6 @@
 //! Tanks that follow the hull (69.117(g)(3); T-01 of document 02): where a tank is measured, and its tonnage from its sections.
 use super::measure::{
-    areas_of_sections, offsets_in_range, parts_nearest, parts_of_under_deck, tons_over, Kind, LONGEST, MOST_STATIONS,
+    offsets_in_range, parts_nearest, parts_of_under_deck, sections, tons_over, Kind, Third, LONGEST, MOST_STATIONS,
 };
 use super::rules::Space;
 use super::Refusal;
@@ -43,23 +43,24 @@ pub fn tonnage(
     let layout = Layout::of(tonnage_length, under_deck.length, tank.length, tank.fore);
     let at_section = usize::from(under_deck.m) + 1;
     let mut areas = [0; MOST_STATIONS];
-    let mut sections = 0;
-    let mut of_sections = areas_of_sections(depths, breadths, at_section);
+    let mut asked = 0;
+    let mut areas_of_sections = sections(depths, breadths, at_section).map(|section| section.area);
     for (station, area) in areas[..=layout.parts as usize].iter_mut().enumerate() {
         // missing sections have no area, and are counted all the same
         let mut next = || {
-            sections += 1;
-            of_sections.next().unwrap_or(0)
+            asked += 1;
+            areas_of_sections.next().unwrap_or(0)
         };
         *area = next();
         if layout.zone_of(station as u32).between {
             *area = next().max(*area);
         }
     }
-    if depths.len() != sections || breadths.len() != sections * at_section {
+    if depths.len() != asked || breadths.len() != asked * at_section {
         return Err(Refusal::NotTheNumberAsked);
     }
-    Ok(tons_over(tank.length, &areas[..=layout.parts as usize]))
+    let areas = &areas[..=layout.parts as usize];
+    Ok(tons_over(Third::of_length(tank.length, areas.len()), areas))
 }
 
 /// Where a tank is measured, or refusal 2 or 9.

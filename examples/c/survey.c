@@ -12,6 +12,15 @@ static void answered(const char *call, uint8_t number) {
     printf("%s %d\n", call, number);
 }
 
+/* Prints the answer to an entry: beside the number what the rounding of the length did, and of a U that of the depth at each station. */
+static void entered(fummidrake_entering_on answer, size_t stations_of_u) {
+    size_t depths = answer.number == 0 ? stations_of_u : 0;
+    printf("enter %d %d ", answer.number, answer.roundings.length);
+    for (size_t i = 0; i < depths; i++)
+        printf("%s%d", i ? "," : "", answer.roundings.depths[i]);
+    printf("%s\n", depths ? "" : "-");
+}
+
 /* Prints what stands: open or not, the tonnage length, how many, and each space. */
 static void print_spaces(const fummidrake_sheet *sheet) {
     size_t count = fummidrake_standing_count(*sheet);
@@ -46,12 +55,12 @@ static void enter_under_deck(fummidrake_sheet *sheet) {
         depths[i] = 1200;
     for (size_t i = 0; i < all_breadths; i++)
         breadths[i] = 2000;
-    answered("enter", fummidrake_enter_on(sheet, under_deck, depths, stations, breadths, all_breadths));
+    entered(fummidrake_enter_on(sheet, under_deck, depths, stations, breadths, all_breadths), stations);
 }
 
 /* Enters a hatchway or a room: one height, one breadth. */
 static void enter_box(fummidrake_sheet *sheet, fummidrake_entry entry, uint32_t height, uint32_t breadth) {
-    answered("enter", fummidrake_enter_on(sheet, entry, &height, 1, &breadth, 1));
+    entered(fummidrake_enter_on(sheet, entry, &height, 1, &breadth, 1), 0);
 }
 
 /* Enters the five spaces of the sheet. */
@@ -59,7 +68,7 @@ static void enter_all(fummidrake_sheet *sheet) {
     enter_under_deck(sheet);
     fummidrake_entry superstructure = {.id = 2, .kind = 3, .length = 1600};
     uint32_t heights[] = {800, 800, 800}, breadths[] = {1000, 1000, 1000};
-    answered("enter", fummidrake_enter_on(sheet, superstructure, heights, 3, breadths, 3));
+    entered(fummidrake_enter_on(sheet, superstructure, heights, 3, breadths, 3), 0);
     fummidrake_entry ballast = {.id = 3, .within = 1, .kind = 5, .standing = 2, .length = 1000};
     enter_box(sheet, ballast, 400, 1000);
     fummidrake_entry deducted = {.id = 4, .within = 2, .kind = 5, .standing = 3, .length = 800};

@@ -13,6 +13,15 @@ static void answered(const char *call, uint8_t number) {
     printf("%s %d\n", call, number);
 }
 
+/* Prints the answer to an entry: beside the number what the rounding of the length did, and of a U that of the depth at each station. */
+static void entered(fummidrake_entering_on answer) {
+    size_t stations = answer.number == 0 ? STATIONS : 0;
+    printf("enter %d %d ", answer.number, answer.roundings.length);
+    for (size_t i = 0; i < stations; i++)
+        printf("%s%d", i ? "," : "", answer.roundings.depths[i]);
+    printf("%s\n", stations ? "" : "-");
+}
+
 /* Prints where a tank is measured: the number, its parts, and for each section the under-deck station. */
 static void print_zones(uint32_t length, uint32_t fore) {
     fummidrake_laid_out laid_out = fummidrake_lay_out(LENGTH, LENGTH, length, fore);
@@ -50,7 +59,7 @@ static void enter_under_deck(fummidrake_sheet *sheet) {
         1600, 1400, 1200, 800,  200, /* 6 */
         1000, 800,  600,  300,  0,   /* 7 */
     };
-    answered("enter", fummidrake_enter_on(sheet, under_deck, depths, STATIONS, breadths, STATIONS * BREADTHS));
+    entered(fummidrake_enter_on(sheet, under_deck, depths, STATIONS, breadths, STATIONS * BREADTHS));
 }
 
 /* Enters a tank with so many breadths: a depth and 5 breadths a section are asked. */

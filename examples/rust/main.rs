@@ -4,7 +4,7 @@
 #[path = "../../rust/fummidrake.rs"]
 mod fummidrake;
 
-use fummidrake::{breadths_at_station, list, read, stations, Changed, Entry, Reported, Sheet};
+use fummidrake::{breadths_at_station, list, read, stations, Changed, Entering, Entry, Reported, Sheet};
 use std::io::Write;
 
 /// An end where bow or stern is upright, as this barge's are: its section counts with the area it has.
@@ -14,6 +14,16 @@ const UPRIGHT: u8 = 2;
 fn answered(call: &str, answer: Changed) -> Sheet {
     println!("{call} {}", answer.number);
     answer.sheet
+}
+
+/// The same of an entry: beside the number what the rounding of the length did, and of a U that of the depth at each station.
+fn entered(answer: Entering, stations_of_u: usize) -> Sheet {
+    let Entering { number, roundings, sheet } = answer;
+    let depths = if number == 0 { &roundings.depths[..stations_of_u] } else { &[] };
+    let depths: Vec<String> = depths.iter().map(|depth| depth.to_string()).collect();
+    let list = if depths.is_empty() { "-".to_string() } else { depths.join(",") };
+    println!("enter {number} {} {list}", roundings.length);
+    sheet
 }
 
 /// Prints what stands: open or not, the tonnage length, how many, and each space.
@@ -48,11 +58,11 @@ fn whole_sheet() -> Sheet {
     let depths = vec![1200; stations(1, 4800, 4800)];
     let breadths = vec![2000; depths.len() * breadths_at_station(1, 1200)];
     let mut sheet = answered("open", Sheet::open(4800));
-    sheet = answered("enter", sheet.enter(under_deck, &depths, &breadths));
-    sheet = answered("enter", sheet.enter(superstructure, &[800; 3], &[1000; 3]));
-    sheet = answered("enter", sheet.enter(ballast, &[400], &[1000]));
-    sheet = answered("enter", sheet.enter(deducted, &[800], &[500]));
-    answered("enter", sheet.enter(hatchway, &[500], &[400]))
+    sheet = entered(sheet.enter(under_deck, &depths, &breadths), depths.len());
+    sheet = entered(sheet.enter(superstructure, &[800; 3], &[1000; 3]), 0);
+    sheet = entered(sheet.enter(ballast, &[400], &[1000]), 0);
+    sheet = entered(sheet.enter(deducted, &[800], &[500]), 0);
+    entered(sheet.enter(hatchway, &[500], &[400]), 0)
 }
 
 /// The room 4 is struck out and put back, twice; two changes are refused.

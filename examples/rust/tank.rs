@@ -4,7 +4,7 @@
 #[path = "../../rust/fummidrake.rs"]
 mod fummidrake;
 
-use fummidrake::{lay_out, read, section_station, Changed, Entry, Sheet, Tank};
+use fummidrake::{lay_out, read, section_station, Changed, Entering, Entry, Sheet, Tank};
 
 const LENGTH: u32 = 3600;
 /// An end where bow or stern is upright, as this barge's are: its section counts with the area it has.
@@ -36,13 +36,30 @@ fn answered(call: &str, answer: Changed) -> Sheet {
     answer.sheet
 }
 
+/// The same of an entry: beside the number what the rounding of the length did, and of a U that of the depth at each station.
+fn entered(answer: Entering) -> Sheet {
+    let Entering { number, roundings, sheet } = answer;
+    let depths = if number == 0 { &roundings.depths[..STATIONS.len()] } else { &[] };
+    println!("enter {number} {} {}", roundings.length, joined(depths));
+    sheet
+}
+
+/// Numbers joined by commas; `-` where there are none.
+fn joined<T: ToString>(numbers: &[T]) -> String {
+    let words: Vec<String> = numbers.iter().map(T::to_string).collect();
+    if words.is_empty() {
+        "-".to_string()
+    } else {
+        words.join(",")
+    }
+}
+
 /// Prints where a tank is measured: the number, its parts, and for each section the under-deck station.
 fn print_zones(length: u32, fore: u32) {
     let laid_out = lay_out(LENGTH, LENGTH, length, fore);
-    let station = |section| section_station(LENGTH, LENGTH, length, fore, section).to_string();
-    let stations: Vec<String> = (0..laid_out.sections).map(station).collect();
-    let list = if stations.is_empty() { "-".to_string() } else { stations.join(",") };
-    println!("zones {} {} {list}", laid_out.number, laid_out.parts);
+    let station = |section| section_station(LENGTH, LENGTH, length, fore, section);
+    let stations: Vec<usize> = (0..laid_out.sections).map(station).collect();
+    println!("zones {} {} {}", laid_out.number, laid_out.parts, joined(&stations));
 }
 
 /// Prints what stands: open or not, the tonnage length, how many, and each space.
@@ -62,7 +79,7 @@ fn print_report(sheet: Sheet) -> Sheet {
 
 fn under_deck_entered(sheet: Sheet) -> Sheet {
     let under_deck = Entry { id: 1, kind: 1, fore_end: UPRIGHT, aft_end: UPRIGHT, length: LENGTH, ..Entry::default() };
-    answered("enter", sheet.enter(under_deck, &[1200; 7], STATIONS.as_flattened()))
+    entered(sheet.enter(under_deck, &[1200; 7], STATIONS.as_flattened()))
 }
 
 fn tank_entered(sheet: Sheet, tank: Tank, breadths: &[u32]) -> Sheet {

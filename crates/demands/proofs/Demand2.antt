@@ -7,25 +7,29 @@ use mathlib.Core.Path.{_≡_, refl, sym, ap, _∙_}
 use mathlib.Core.Bool.{false, not}
 use mathlib.Core.List.{List, [], _∷_, _++_}
 use native.Mathlib.Omega.{arith}
-use borrow.Author.Tests.{not-true, not-false, eqb-true, le-leb}
+use borrow.Author.Tests.{not-true, not-false, eq-eqb, ne-eqb, eqb-true, eqb-false, le-leb}
 use lib.Dec.{eqb}
 use lib.ListN.{length, take, drop}
 use Rattle.measure.specs.Kinds.{kindOf}
 use Rattle.measure.specs.Rounding.{Nearest}
 use Rattle.measure.specs.Parts.{tableParts, underDeckParts, depthParts, superstructureParts, NearestEven}
-use Rattle.measure.specs.Thirds.{thirdOfLength, thirdOfDepth}
+use Rattle.measure.specs.Thirds.{thirdOfLength, thirdOfDepth, roundingOfLength, roundingOfDepth, Rounded, SignSays, divided}
 use Rattle.measure.specs.Multipliers.{weighted, total}
 use Rattle.measure.specs.Ends.{sectionAreas, endsOf}
 use Rattle.measure.specs.Sections.{layoutOf, doubled}
 use Rattle.measure.specs.Tanks.{taken, passesEnd, hasM, tankVolume, measuredTank}
 use Rattle.measure.specs.Volumes.{tons, areas, underDeckVolume, levelVolume, boxVolume}
 use Rattle.measure.specs.Offsets.{middleOf, volume, tonnage, measured}
+use Rattle.measure.specs.Roundings.{PlaceByPlace, noDepths, passedOn, noRoundings, measuredOffsets}
 use Rattle.measure.specs.declared.units.Hundredths.{Hundredths}
 use Rattle.measure.specs.declared.kinds.Kind.{Kind}
 use Rattle.measure.specs.declared.offsets.Measured.{Measured}
 use Rattle.measure.specs.declared.kinds.Kind.the-variants.{UnderDeck, BetweenDeck, Superstructure, Hatchway, Room, NoKind}
 use Rattle.measure.proofs.laws.Tests.{and-left, and-right}
+use Rattle.measure.proofs.laws.Parts.{least, table-even, under-deck-even, superstructure-even}
+use Rattle.measure.proofs.laws.Roundings.{measured-of, roundings-of}
 use Rattle.measure_laws.proofs.Rounding.{nearest-is}
+use Rattle.measure_laws.proofs.Roundings.{rounded-is, sign-says, length-passed-on, length-alone, depths-passed-on, none-passed-on}
 use Rattle.measure_laws.proofs.Parts.{nearest-parts-is}
 use Rattle.measure_laws.specs.Tanks.{AnsweredTank, with-2, with-9, with-29, with-3, with-0}
 use Rattle.measure_laws.proofs.Offsets.{measured-exactly}
@@ -44,7 +48,7 @@ use Rattle.spaces_laws.proofs.Tests.{and-fails}
 use Rattle.spaces_laws.proofs.Tanks.{facts-of-tank, measurable-there, tank-is-room}
 use Rattle.sheet.specs.Sheet.{standing}
 use Rattle.sheet.specs.Changes.{fitted, noted}
-use Rattle.sheet.specs.Calls.{changed, entryOf, spaceOf, entered, reported}
+use Rattle.sheet.specs.Calls.{changed, entryOf, spaceOf, entered, entering, reported}
 use Rattle.sheet.specs.Tanks.{tankOf, tankIn, tankEntered}
 use Rattle.sheet.specs.declared.sheet.Sheet.{Sheet}
 use Rattle.sheet.specs.declared.calls.Entry.{Entry}
@@ -66,7 +70,7 @@ use Rattle.dayfile_laws.proofs.Writing.{write-accepted}
 use Rattle.dayfile_laws.proofs.WrittenRead.{has-read-back, written-anywhere}
 use Rattle.dayfile_laws.proofs.ReadWritten.{written-back}
 use Rattle.demands.specs.Reached.{Reached}
-use Rattle.demands.specs.Figures.{EnteredLast, unlessPointed, PointedEnds, TankEnteredLast, GrossAndNet}
+use Rattle.demands.specs.Figures.{EnteredLast, PassesOn, unlessPointed, PointedEnds, TankEnteredLast, GrossAndNet}
 use Rattle.demands.proofs.Reached.{reached-resumable}
 
 -- ---- third intervals and parts
@@ -80,6 +84,22 @@ third-of-length l n some-parts = nearest-is (10 * l.0) (3 * n) (omega arith)
 pub third-of-depth : (d : Hundredths) (m : ℕ) → 0 < m → Nearest d.0 (3 * m) (thirdOfDepth d m .0)
 unfolding thirdOfDepth
 third-of-depth d m some-parts = nearest-is d.0 (3 * m) (omega arith)
+
+-- T-04: "Each third interval now also gives its rounding, as a signed number of parts of its exact divisor: above zero when rounded up, zero
+-- when exact, else below." It is over minus a half and at most a half of the divisor, and with it the exact fraction comes back.
+pub rounding-of-length : (l : Hundredths) (n : ℕ) → 0 < n
+    → let third = thirdOfLength l n .0 in
+    let z = roundingOfLength l n in
+    Rounded (10 * l.0) (3 * n) third z × SignSays (10 * l.0) (3 * n) third z
+unfolding thirdOfLength roundingOfLength
+rounding-of-length l n some-parts = (rounded-is (10 * l.0) (3 * n) (omega arith), sign-says (10 * l.0) (3 * n) (omega arith))
+
+pub rounding-of-depth : (d : Hundredths) (m : ℕ) → 0 < m
+    → let third = thirdOfDepth d m .0 in
+    let z = roundingOfDepth d m in
+    Rounded d.0 (3 * m) third z × SignSays d.0 (3 * m) third z
+unfolding thirdOfDepth roundingOfDepth
+rounding-of-depth d m some-parts = (rounded-is d.0 (3 * m) (omega arith), sign-says d.0 (3 * m) (omega arith))
 
 -- "An S takes the even number from 2 to 16 whose interval is nearest, as exact fractions, to the tonnage length divided by its number;
 -- on a tie, the greater number."
@@ -166,6 +186,64 @@ tonnage-of-tank t u m l f depths breadths z = by (measured-tank-is t u m l f dep
     by (with-29 _ _ _) e = absurd (omega arith)
     by (with-3 _ _ _ _) e = absurd (omega arith)
     by (with-0 _ _ _ _) e = nearest-is _ (100 * 100 * 1000) (omega arith)
+
+-- ---- what the rounding did (T-04)
+
+-- "Tonnages don't change."
+pub same-tonnage : (code : ℕ) (t l : Hundredths) (hs bs : List ℕ) → measuredOffsets code t l hs bs .measured ≡ measured code t l hs bs
+same-tonnage = measured-of
+
+-- "Each U, B and S passes on the rounding of its length, a U also that of every station's depth."
+pub passed-on-by-U : (t l : Hundredths) (depths breadths : List ℕ) → measured 1 t l depths breadths .number ≡ 0
+    → let r = measuredOffsets 1 t l depths breadths .roundings in
+    (r .length ≡ roundingOfLength l (underDeckParts t l)) × PlaceByPlace (depthParts (middleOf depths)) depths (r .depths)
+unfolding kindOf
+passed-on-by-U t l depths breadths z =
+    let some : 0 < underDeckParts t l = omega (arith, least (under-deck-even t l)) in
+    rw (roundings-of 1 t l depths breadths z) (length-passed-on UnderDeck t l depths some, depths-passed-on t l depths breadths z)
+
+pub passed-on-by-B : (t l : Hundredths) (heights breadths : List ℕ) → measured 2 t l heights breadths .number ≡ 0
+    → measuredOffsets 2 t l heights breadths .roundings ≡ record { length = roundingOfLength l (tableParts t); depths = noDepths }
+unfolding kindOf
+passed-on-by-B t l heights breadths z =
+    roundings-of 2 t l heights breadths z ∙ length-alone BetweenDeck t l heights refl (omega (arith, least (table-even t)))
+
+pub passed-on-by-S : (t l : Hundredths) (heights breadths : List ℕ) → measured 3 t l heights breadths .number ≡ 0
+    → measuredOffsets 3 t l heights breadths .roundings ≡ record { length = roundingOfLength l (superstructureParts t l); depths = noDepths }
+unfolding kindOf
+passed-on-by-S t l heights breadths z =
+    roundings-of 3 t l heights breadths z ∙ length-alone Superstructure t l heights refl (omega (arith, least (superstructure-even t l)))
+
+-- an H or R none, which isn't divided
+none-of : (code : ℕ) (t l : Hundredths) (hs bs : List ℕ) → passedOn (kindOf code) t l hs ≡ noRoundings → measuredOffsets code t l hs bs .roundings ≡ noRoundings
+none-of code t l hs bs none =
+    by-test (eqb (measured code t l hs bs .number) 0)
+    (λ z. roundings-of code t l hs bs (eqb-true _ 0 z) ∙ none)
+    (λ some. none-passed-on code t l hs bs (eqb-false _ 0 some))
+
+pub none-by-H : (t l : Hundredths) (heights breadths : List ℕ) → measuredOffsets 4 t l heights breadths .roundings ≡ noRoundings
+unfolding kindOf passedOn divided
+none-by-H t l heights breadths = none-of 4 t l heights breadths refl
+
+pub none-by-R : (t l : Hundredths) (heights breadths : List ℕ) → measuredOffsets 5 t l heights breadths .roundings ≡ noRoundings
+unfolding kindOf passedOn divided
+none-by-R t l heights breadths = none-of 5 t l heights breadths refl
+
+-- and refused offsets none
+pub none-where-refused : (code : ℕ) (t l : Hundredths) (hs bs : List ℕ) → (measured code t l hs bs .number ≡ 0 → ⊥)
+    → measuredOffsets code t l hs bs .roundings ≡ noRoundings
+none-where-refused = none-passed-on
+
+-- on a sheet too
+pub entering-passes-on : (s : Sheet) (e : Entry) (heights breadths : List ℕ) → PassesOn s e heights breadths
+unfolding entering
+entering-passes-on s e heights breadths =
+    record {
+      same-number = refl;
+      same-sheet = refl;
+      accepted = λ z. rw (eq-eqb _ 0 z) (sym (roundings-of (e .kind) (s .length) (e .length) heights breadths (enter-accepted s e heights breadths z .offsets)));
+      refused = λ some. rw (ne-eqb _ 0 some);
+    }
 
 -- ---- on a sheet
 

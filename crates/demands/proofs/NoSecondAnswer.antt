@@ -66,6 +66,10 @@ pub measure-length-fits :
     One measure.ranges.length_fits.ended measure.ranges.length_fits.Reads.Asked measure.ranges.length_fits.Reads.Learnt
 measure-length-fits _ = record { nothing-asked = tt; one-answer = agree; one-left = λ p q. refl }
 
+pub measure-none :
+    One measure.roundings.none.ended measure.roundings.none.Reads.Asked measure.roundings.none.Reads.Learnt
+measure-none _ = record { nothing-asked = tt; one-answer = agree; one-left = λ p q. refl }
+
 pub measure-tank :
     One measure.tanks.measure_tank.ended measure.tanks.measure_tank.Reads.Asked measure.tanks.measure_tank.Reads.Learnt
 measure-tank _ = record { nothing-asked = tt; one-answer = agree; one-left = λ p q. refl }

@@ -1,4 +1,4 @@
--- What an accepted entry leaves on a sheet, and how gross and net follow from the tonnages.
+-- What an accepted entry leaves on a sheet and passes on, and how gross and net follow from the tonnages.
 use Prim.Native.Nat.{ℕ, _+_, _*_}
 use mathlib.Core.Path.{_≡_}
 use mathlib.Core.Bool.{cond}
@@ -7,6 +7,7 @@ use Rattle.measure.specs.Rounding.{Nearest}
 use Rattle.measure.specs.Parts.{underDeckParts}
 use Rattle.measure.specs.Thirds.{thirdOfLength}
 use Rattle.measure.specs.Multipliers.{weightedFrom}
+use Rattle.measure.specs.Roundings.{noRoundings, measuredOffsets}
 use Rattle.measure.specs.Ends.{sectionAreas, endsOf, FirstAndLast}
 use Rattle.spaces.specs.Row.{sumOf}
 use Rattle.standard.specs.Gross.{allExempt}
@@ -16,7 +17,7 @@ use Rattle.spaces_laws.specs.Gross.{GrossLess}
 use Rattle.spaces_laws.specs.Tanks.{AcceptedTank}
 use Rattle.sheet.specs.Sheet.{standing}
 use Rattle.sheet.specs.Ends.{isPointed}
-use Rattle.sheet.specs.Calls.{spaceOf, measuredFor, entered}
+use Rattle.sheet.specs.Calls.{spaceOf, measuredFor, entered, entering}
 use Rattle.sheet.specs.Tanks.{tankMeasured, tankIn, tankEntered}
 use Rattle.sheet.specs.declared.sheet.Sheet.{Sheet}
 use Rattle.sheet.specs.declared.calls.Entry.{Entry}
@@ -27,6 +28,14 @@ pub record EnteredLast (s : Sheet) (e : Entry) (heights breadths : List ℕ) : T
   pub offsets-accepted : measuredFor s e heights breadths .number ≡ 0
   pub stands-last : standing (entered s e heights breadths .sheet) ≡ standing s ++ (spaceOf (s .length) e heights breadths ∷ [])
   pub with-its-tonnage : spaceOf (s .length) e heights breadths .tonnage ≡ measuredFor s e heights breadths .tonnage
+
+-- T-04: entering makes that change, and with it passes on the roundings of an accepted space; none where it is refused
+pub record PassesOn (s : Sheet) (e : Entry) (heights breadths : List ℕ) : Type 0 where
+  pub same-number : entering s e heights breadths .number ≡ entered s e heights breadths .number
+  pub same-sheet : entering s e heights breadths .sheet ≡ entered s e heights breadths .sheet
+  pub accepted : entered s e heights breadths .number ≡ 0
+      → entering s e heights breadths .roundings ≡ measuredOffsets (e .kind) (s .length) (e .length) heights breadths .roundings
+  pub refused : (entered s e heights breadths .number ≡ 0 → ⊥) → entering s e heights breadths .roundings ≡ noRoundings
 
 -- what a section at an end adds to a volume: nothing where the end is said to be pointed
 abbrev pub unlessPointed : (end area : ℕ) → ℕ

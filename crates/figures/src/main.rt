@@ -78,7 +78,8 @@ fn answer_space(line: &[u8]) {
 fn answer_offsets(code: u8, tonnage_length: u32, length: u32, heights: &[u32], breadths: &[u32]) {
     let t = Hundredths(tonnage_length);
     let l = Hundredths(length);
-    let measured = measure::offsets::measure_offsets(code, t, l, heights, breadths);
+    let offsets = measure::offsets::measure_offsets(code, t, l, heights, breadths);
+    let measured = offsets.measured;
     let divided = measure::thirds::divided(measure::kinds::kind_of(code), t, l);
     print_number(measured.number as u64, b" ");
     print_number(measured.tonnage as u64, b" ");

@@ -14,6 +14,7 @@ use measure::tanks::section_station;
 use measure::units::Hundredths;
 use sheet::Changed;
 use sheet::Counted;
+use sheet::Entering;
 use sheet::Entry;
 use sheet::Reported;
 use sheet::Sheet;
@@ -26,7 +27,7 @@ ghost use Rattle.measure.specs.Volumes.{hundredths};
 ghost use Rattle.measure.specs.Offsets.{stations as stationsOf, breadthsAtStation};
 ghost use Rattle.measure.specs.Tanks.{laidOut, sectionStation};
 ghost use Rattle.sheet.specs.Sheet.{usable, lengthOf, standingCount, spaceAt};
-ghost use Rattle.sheet.specs.Calls.{openedWith, entered, withdrawn, marked, undone, redone, counted, reported};
+ghost use Rattle.sheet.specs.Calls.{openedWith, entering, withdrawn, marked, undone, redone, counted, reported};
 ghost use Rattle.sheet.specs.Tanks.{tankEntered};
 ghost use Rattle.dayfile.specs.Writing.{written, writtenInto};
 ghost use Rattle.dayfile.specs.Reading.{readOf, readBefore};
@@ -45,8 +46,8 @@ pub extern "C" fn fummidrake_enter(
     entry: Entry,
     heights: &[u32],
     breadths: &[u32],
-) -> Changed
-    ensures { λ r. ⌜ r ≡ entered sheet entry (now (heights .entry)) (now (breadths .entry)) ⌝ }
+) -> Entering
+    ensures { λ r. ⌜ r ≡ entering sheet entry (now (heights .entry)) (now (breadths .entry)) ⌝ }
 {
     sheet.enter(entry, heights, breadths)
 }

@@ -4,11 +4,13 @@ pub mod Refusals
 pub mod Products
 pub mod Lists
 pub mod Rounding
+pub mod Signed
 pub mod Parts
 pub mod Multipliers
 pub mod Ranges
 pub mod Volumes
 pub mod Offsets
+pub mod Roundings
 pub mod Ends
 pub mod Zones
 pub mod Sections

@@ -12,6 +12,7 @@ mod parts;
 pub mod ranges;
 pub mod refusals;
 mod rounding;
+pub mod roundings;
 pub mod sections;
 pub mod tanks;
 pub mod thirds;

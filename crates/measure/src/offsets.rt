@@ -1,4 +1,4 @@
-// One space measured from its offsets: its tonnage, or refusal 2 or 3.
+// One space measured from its offsets: its tonnage, or refusal 2 or 3; and its roundings.
 use crate::kinds::Kind;
 use crate::kinds::is_kind;
 use crate::kinds::kind_of;
@@ -14,12 +14,19 @@ use crate::ranges::length_fits;
 use crate::ranges::tonnage_length_fits;
 use crate::refusals::NOT_THE_NUMBER_ASKED;
 use crate::refusals::OUTSIDE_ITS_RANGE;
+use crate::roundings::Roundings;
+use crate::roundings::none;
+use crate::roundings::of_depths;
+use crate::thirds::divided;
 use crate::units::Hundredths;
 use crate::volumes::box_tons;
 use crate::volumes::level_tons;
 use crate::volumes::under_deck_tons;
 ghost use mathlib.Core.Path.{_≡_};
+ghost use Prim.Native.Nat.{_≤_};
+ghost use lib.ListN.{length as lengthOf};
 ghost use Rattle.measure.specs.Offsets.{inRange, stations as stationsOf, breadthsAtStation, middleOf, mOf, counted as countedOf, tonnage as tonnageOf, measured};
+ghost use Rattle.measure.specs.Roundings.{depthsPassedOn, passedOn, measuredOffsets};
 ghost use Rattle.measure.specs.Handed.{Taken};
 
 // The paper's number, 0 where accepted, and the tonnage in hundredths of a ton, 0 where refused.
@@ -28,9 +35,38 @@ pub struct Measured {
     pub tonnage: u32,
 }
 
+// The same with what the rounding did: of accepted offsets alone, else 0 each.
+pub struct MeasuredOffsets {
+    pub measured: Measured,
+    pub roundings: Roundings,
+}
+
 // Measures one space. `heights` are the depths at a U's stations, the heights at a B's or S's, the one height of an H
 // or R; `breadths` go station by station from the bow, and at a U's station from above.
 pub fn measure_offsets(
+    code: u8,
+    tonnage_length: Hundredths,
+    length: Hundredths,
+    heights: &[u32],
+    breadths: &[u32],
+) -> MeasuredOffsets
+    ensures { λ r. ⌜ r ≡ measuredOffsets code «tonnage_length» length (now (heights .entry)) (now (breadths .entry)) ⌝ }
+{
+    let measured = tonnage_or_refusal(code, tonnage_length, length, heights, breadths);
+    if measured.number != 0 {
+        return MeasuredOffsets {
+            measured,
+            roundings: none(),
+        };
+    }
+    MeasuredOffsets {
+        measured,
+        roundings: passed_on(kind_of(code), tonnage_length, length, heights),
+    }
+}
+
+// The tonnage, or refusal 2 or 3.
+fn tonnage_or_refusal(
     code: u8,
     tonnage_length: Hundredths,
     length: Hundredths,
@@ -56,6 +92,34 @@ pub fn measure_offsets(
         number: 0,
         tonnage: tonnage(kind, tonnage_length, length, heights, breadths),
     }
+}
+
+// The roundings of accepted offsets: that of the length, and of a U those of its stations' depths.
+fn passed_on(
+    kind: Kind,
+    tonnage_length: Hundredths,
+    length: Hundredths,
+    heights: &[u32],
+) -> Roundings
+    requires { ⌜ lengthOf (now heights) ≤ 17 ⌝ }
+    ensures { λ r. ⌜ r ≡ passedOn kind «tonnage_length» length (now (heights .entry)) ⌝ }
+{
+    Roundings {
+        length: divided(kind, tonnage_length, length).rounding,
+        depths: depths_passed_on(kind, heights),
+    }
+}
+
+// Only a U has m, and with it depths to divide.
+fn depths_passed_on(kind: Kind, heights: &[u32]) -> [i8; 17]
+    requires { ⌜ lengthOf (now heights) ≤ 17 ⌝ }
+    ensures { λ r. ⌜ r ≡ depthsPassedOn kind (now (heights .entry)) ⌝ }
+{
+    let m = m_of(kind, heights);
+    if m == 0 {
+        return [0; 17];
+    }
+    of_depths(m as usize, heights)
 }
 
 // One station more than parts; the one length, breadth and height of a hatchway or a room count as one station.

@@ -1,4 +1,5 @@
 pub mod Rounding
+pub mod Roundings
 pub mod Parts
 pub mod Classes
 pub mod Stations
@@ -8,5 +9,6 @@ pub mod Offsets
 pub mod Ends
 pub mod Tanks
 pub mod Figures
+pub mod RoundingFigures
 pub mod EndFigures
 pub mod TankFigures

@@ -1,22 +1,19 @@
 -- `nearest` is within a half, the greater on a half, and nothing else is.
 use mathlib.Core.Path.{_≡_}
 use mathlib.Core.Logic.{⊎-elim}
-use Prim.Native.Nat.{ℕ, _+_, _*_, _/_, _≤_, _<_}
-use native.Mathlib.Nat.{div-mul-le-self, lt-div-mul-add, div-eq-of-lt-le, eq-or-lt-of-le, mul-comm, mul-left-comm, add-mul}
+use Prim.Native.Nat.{ℕ, _+_, _*_, _≤_, _<_}
+use native.Mathlib.Nat.{div-eq-of-lt-le, eq-or-lt-of-le, mul-comm, mul-left-comm, add-mul}
 use native.Mathlib.Omega.{arith}
 use Rattle.measure.specs.Rounding.{nearest, Nearest}
+use Rattle.measure.proofs.laws.Rounding.{nearest-within}
 
 -- r (2 b) in terms of the product b r
 doubled : (b r : ℕ) → r * (2 * b) ≡ 2 * (b * r)
 doubled b r = omega (arith, mul-left-comm r 2 b, mul-comm r b)
 
 pub nearest-is : (a b : ℕ) → 0 < b → Nearest a b (nearest a b)
-unfolding nearest
 nearest-is a b h =
-    let p : 0 < 2 * b = omega arith in
-    let lo = div-mul-le-self (2 * a + b) (2 * b) in
-    let hi = lt-div-mul-add {a = 2 * a + b} p in
-    let e = doubled b ((2 * a + b) / (2 * b)) in
+    let w = nearest-within a b h in
     record { within-a-half = omega arith; half-goes-up = λ q. omega arith }
 
 pub nearest-only : (a b r : ℕ) → 0 < b → Nearest a b r → nearest a b ≡ r

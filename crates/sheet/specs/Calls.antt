@@ -9,6 +9,7 @@ use Rattle.measure.specs.Refusals.{firstOf}
 use Rattle.measure.specs.Volumes.{hundredths}
 use Rattle.measure.specs.Kinds.{kindOf}
 use Rattle.measure.specs.Offsets.{mOf, measured}
+use Rattle.measure.specs.Roundings.{passedOn, noRoundings}
 use Rattle.measure.specs.Ends.{endsOf}
 use Rattle.measure.specs.declared.units.Hundredths.{Hundredths}
 use Rattle.measure.specs.declared.offsets.Measured.{Measured}
@@ -25,6 +26,7 @@ use Rattle.sheet.specs.declared.changes.Change.the-variants.{Entered, Wi
 use Rattle.sheet.specs.declared.sheet.Sheet.{Sheet}
 use Rattle.sheet.specs.declared.calls.Entry.{Entry}
 use Rattle.sheet.specs.declared.calls.Changed.{Changed}
+use Rattle.sheet.specs.declared.calls.Entering.{Entering}
 use Rattle.sheet.specs.declared.calls.Counted.{Counted}
 use Rattle.sheet.specs.declared.calls.Reported.{Reported}
 
@@ -85,6 +87,20 @@ enterNumber s e heights breadths =
 unfoldable pub entered : Sheet → Entry → List ℕ → List ℕ → Changed
 entered s e heights breadths =
     answered (enterNumber s e heights breadths) s (changed (Entered (spaceOf (s .length) e heights breadths)) s)
+
+-- and with the change what it "passes on" (T-04 of document 02): the roundings of an accepted entry, none of a refused one
+unfoldable pub entering : Sheet → Entry → List ℕ → List ℕ → Entering
+entering s e heights breadths =
+    let change = entered s e heights breadths in
+    record {
+      number = change .number;
+      roundings = cond (eqb (change .number) 0) (passedOn (kindOf (e .kind)) (s .length) (e .length) heights) noRoundings;
+      sheet = change .sheet;
+    }
+
+-- a refused entry hands back the sheet as it came
+abbrev pub entryRefused : ℕ → Sheet → Entering
+entryRefused number s = record { number = number; roundings = noRoundings; sheet = s }
 
 -- ---- withdraw and mark
 

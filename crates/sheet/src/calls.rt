@@ -12,6 +12,8 @@ use measure::offsets::m_of;
 use measure::offsets::measure_offsets;
 use measure::ranges::tonnage_length_fits;
 use measure::refusals::OUTSIDE_ITS_RANGE;
+use measure::roundings;
+use measure::roundings::Roundings;
 use measure::units::Hundredths;
 use spaces::space::Space;
 use standard::gross::reckon;
@@ -21,7 +23,7 @@ use standard::rules::withdraw_ruling;
 ghost use mathlib.Core.Path.{_≡_};
 ghost use mathlib.Core.Bool.{_&&_};
 ghost use lib.Dec.{eqb};
-ghost use Rattle.sheet.specs.Calls.{openedWith, misstated as misstatedOf, entryOf, entered, withdrawn, marked, undone, redone, counted, reported};
+ghost use Rattle.sheet.specs.Calls.{openedWith, misstated as misstatedOf, entryOf, entering, entryRefused, withdrawn, marked, undone, redone, counted, reported};
 
 // What is entered: the enclosing id is looked at only of a room, and the ends only of a U: 1 inner (at a step), 2 upright, 3 pointed.
 #[repr(C)]
@@ -38,6 +40,14 @@ pub struct Entry {
 #[repr(C)]
 pub struct Changed {
     pub number: u8,
+    pub sheet: Sheet,
+}
+
+// What entering answers: with the change the roundings that an accepted space passes on, 0 each where refused.
+#[repr(C)]
+pub struct Entering {
+    pub number: u8,
+    pub roundings: Roundings,
     pub sheet: Sheet,
 }
 
@@ -89,6 +99,19 @@ impl Entry {
     }
 }
 
+impl Entering {
+    // A refused entry passes no rounding on, and hands the sheet back as it came.
+    fn refused(number: u8, sheet: Sheet) -> Entering
+        ensures { λ r. ⌜ r ≡ entryRefused number sheet ⌝ }
+    {
+        Entering {
+            number,
+            roundings: roundings::none(),
+            sheet,
+        }
+    }
+}
+
 impl Sheet {
     // A new sheet with a tonnage length; one not open where it is outside its range.
     pub fn open(length: Hundredths) -> Changed
@@ -107,42 +130,33 @@ impl Sheet {
     }
 
     // Enters a space from its offsets.
-    pub fn enter(self, entry: Entry, heights: &[u32], breadths: &[u32]) -> Changed
-        ensures { λ r. ⌜ r ≡ entered self entry (now (heights .entry)) (now (breadths .entry)) ⌝ }
+    pub fn enter(self, entry: Entry, heights: &[u32], breadths: &[u32]) -> Entering
+        ensures { λ r. ⌜ r ≡ entering self entry (now (heights .entry)) (now (breadths .entry)) ⌝ }
     {
         if !self.usable() {
-            return Changed {
-                number: NOT_OPEN,
-                sheet: self,
-            };
+            return Entering::refused(NOT_OPEN, self);
         }
         if entry.misstated() {
-            return Changed {
-                number: OUTSIDE_ITS_RANGE,
-                sheet: self,
-            };
+            return Entering::refused(OUTSIDE_ITS_RANGE, self);
         }
         let whole = self.length;
-        let measured = measure_offsets(entry.kind, whole, entry.length, heights, breadths);
+        let offsets = measure_offsets(entry.kind, whole, entry.length, heights, breadths);
+        let measured = offsets.measured;
         if measured.number != 0 {
-            return Changed {
-                number: measured.number,
-                sheet: self,
-            };
+            return Entering::refused(measured.number, self);
         }
         let x = entry.space(m_of(kind_of(entry.kind), heights), measured.tonnage);
         let spaces = self.spaces;
         let ruled = entry_number(spaces, self.count, whole, x);
         let number = entry.judged_by_ends(ruled, whole, heights, breadths);
         if number != 0 {
-            return Changed {
-                number,
-                sheet: self,
-            };
+            return Entering::refused(number, self);
         }
+        let roundings = offsets.roundings;
         let change = Change::Entered(x);
-        Changed {
+        Entering {
             number: 0,
+            roundings,
             sheet: self.made(change).noted(change),
         }
     }

@@ -14,6 +14,7 @@ mod tanks;
 
 pub use calls::Changed;
 pub use calls::Counted;
+pub use calls::Entering;
 pub use calls::Entry;
 pub use calls::Reported;
 pub use resume::Resumed;

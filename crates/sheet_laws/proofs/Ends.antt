@@ -14,7 +14,7 @@ use Rattle.measure.specs.Ends.{endsOf}
 use Rattle.measure.proofs.laws.Tests.{and-left, and-right}
 use Rattle.spaces.proofs.laws.Cases.{by-test}
 use Rattle.sheet.specs.Ends.{isEnd, isPointed, hasEnds, endsFit, pointedArea, pointedWithArea, End, inner, upright, pointed, EndsSaid, PointedWithArea, fore, aft}
-use Rattle.sheet.specs.Calls.{entryOf, spaceOf, entered}
+use Rattle.sheet.specs.Calls.{entryOf, spaceOf, entered, entering}
 use Rattle.sheet.specs.declared.sheet.Sheet.{Sheet}
 use Rattle.sheet.specs.declared.calls.Entry.{Entry}
 use Rattle.sheet.specs.declared.calls.Changed.{Changed}
@@ -103,6 +103,13 @@ pointed-as-upright : (side : Side) (s : Sheet) (e : Entry) (hs bs : List ℕ) �
 unfolding entered endsFit pointedWithArea entryOf
 pointed-as-upright bow s e hs bs none = rw (eq-eqb _ 0 none)
 pointed-as-upright stern s e hs bs none = rw (eq-eqb _ 0 none)
+
+-- and whatever an end is said to be, where the change is the same the whole answer is: what is passed on (T-04) goes by kind and length
+pub same-passed-on : (side : Side) (one other : ℕ) (s : Sheet) (e : Entry) (hs bs : List ℕ)
+    → entered s (saying side one e) hs bs ≡ entered s (saying side other e) hs bs → entering s (saying side one e) hs bs ≡ entering s (saying side other e) hs bs
+unfolding entering
+same-passed-on bow one other s e hs bs same = rw same
+same-passed-on stern one other s e hs bs same = rw same
 
 -- an accepted U has no area at a pointed end
 pub no-area : (s : Sheet) (e : Entry) (hs bs : List ℕ) → entered s e hs bs .number ≡ 0 → e .kind ≡ 1

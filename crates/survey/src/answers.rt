@@ -3,6 +3,8 @@
 use dayfile::Reading;
 use dayfile::Written;
 use libc::STDOUT_FILENO;
+use measure::kinds::UNDER_DECK;
+use measure::roundings::Roundings;
 use measure::tanks;
 use measure::units::Hundredths;
 use script::hex;
@@ -10,6 +12,7 @@ use script::remarks;
 use script::remarks::Remark;
 use sheet::Changed;
 use sheet::Counted;
+use sheet::Entering;
 use sheet::Reported;
 use sheet::Sheet;
 use spaces::space::Space;
@@ -28,6 +31,32 @@ pub fn remark(remark: Remark) {
 pub fn changed(changed: Changed) -> Sheet {
     print_number(changed.number as u64, b"\n");
     changed.sheet
+}
+
+// The rounding of the length and, of an accepted U, those of the depths at its stations; `-` where there are none.
+pub fn entering(entering: Entering, kind: u8, stations: usize) -> Sheet {
+    let roundings = entering.roundings;
+    print_number(entering.number as u64, b" ");
+    print_signed(roundings.length);
+    print(b" ");
+    if entering.number == 0 && kind == UNDER_DECK {
+        print_depths(roundings, stations);
+    } else {
+        print(b"-");
+    }
+    print(b"\n");
+    entering.sheet
+}
+
+// An accepted U has at most 17 stations.
+fn print_depths(roundings: Roundings, stations: usize) {
+    let depths = roundings.depths;
+    let mut i = 0;
+    while i < stations && i < 17 {
+        print_comma(i);
+        print_signed(depths[i]);
+        i += 1;
+    }
 }
 
 pub fn counted(counted: Counted) -> Sheet {
@@ -129,10 +158,15 @@ fn print_stations(
 
 // A number of a list, by its place.
 fn print_listed(place: usize, x: u64) {
+    print_comma(place);
+    print_number(x, b"");
+}
+
+// What stands before a number of a list, by its place.
+fn print_comma(place: usize) {
     if 0 < place {
         print(b",");
     }
-    print_number(x, b"");
 }
 
 // Bytes as hex digits, some thousands at a time; `-` where there are none.
@@ -167,6 +201,17 @@ fn print_hex(bytes: &[u8])
     let mut text = io::buffer();
     let n = hex::digits(bytes, &mut text);
     print(&text[..n]);
+}
+
+// A number below zero has a `-` before it.
+fn print_signed(x: i8) {
+    let wide = x as i64;
+    if wide < 0 {
+        print(b"-");
+        print_number((0 - wide) as u64, b"");
+        return;
+    }
+    print_number(wide as u64, b"");
 }
 
 fn print_number(x: u64, behind: &[u8]) {

@@ -82,20 +82,20 @@ fn answer_line(sheet: Sheet, line: &[u8]) -> Sheet {
     }
 }
 
-// Makes a call with the words of its line: those up to `redo` answer a number alone.
+// Makes a call with the words of its line.
 fn make(sheet: Sheet, line: &[u8], call: usize) -> Sheet {
-    if call <= REDO {
-        return answers::changed(change(sheet, line, call));
+    match call {
+        ENTER | ENTER_WITH_ENDS => enter(sheet, line, false),
+        ENTER_TANK => enter(sheet, line, true),
+        OPEN | WITHDRAW | MARK | UNDO | REDO => answers::changed(change(sheet, line, call)),
+        _ => ask(sheet, line, call),
     }
-    ask(sheet, line, call)
 }
 
-// Opens a sheet, makes a change, takes one back or makes it again.
+// Opens a sheet, makes a change other than an entry, takes one back or makes it again: these answer a number alone.
 fn change(sheet: Sheet, line: &[u8], call: usize) -> Changed {
     match call {
         OPEN => Sheet::open(Hundredths(words::measure_in(words::word(line, 1)))),
-        ENTER | ENTER_WITH_ENDS => enter(sheet, line, false),
-        ENTER_TANK => enter(sheet, line, true),
         WITHDRAW => sheet.withdraw(words::id_in(words::word(line, 1))),
         MARK => mark(sheet, line),
         UNDO => sheet.undo(),
@@ -152,7 +152,7 @@ fn mark(sheet: Sheet, line: &[u8]) -> Changed {
 }
 
 // Enters a space or a tank, with the two lists of the line.
-fn enter(sheet: Sheet, line: &[u8], is_tank: bool) -> Changed {
+fn enter(sheet: Sheet, line: &[u8], is_tank: bool) -> Sheet {
     let mut heights = [0u32; 1024];
     let h = words::measures(words::word(line, 6), &mut heights);
     let mut breadths = [0u32; 1024];
@@ -160,17 +160,20 @@ fn enter(sheet: Sheet, line: &[u8], is_tank: bool) -> Changed {
     enter_from(sheet, line, is_tank, &heights[..h], &breadths[..b])
 }
 
+// A tank passes no roundings on, and answers a number alone.
 fn enter_from(
     sheet: Sheet,
     line: &[u8],
     is_tank: bool,
     heights: &[u32],
     breadths: &[u32],
-) -> Changed {
+) -> Sheet {
     if is_tank {
-        return sheet.enter_tank(tank(line), heights, breadths);
+        return answers::changed(sheet.enter_tank(tank(line), heights, breadths));
     }
-    sheet.enter(entry(line), heights, breadths)
+    let entry = entry(line);
+    let kind = entry.kind;
+    answers::entering(sheet.enter(entry, heights, breadths), kind, heights.len())
 }
 
 // Ends that are left out are 0.

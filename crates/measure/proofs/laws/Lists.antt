@@ -1,11 +1,12 @@
--- Laws of lists of any values: one taken off the front, and one stored behind those before it.
+-- Laws of lists of any values: one taken off the front, one stored behind those before it, and a row filled from the front.
 use mathlib.Core.Path.{_≡_, sym, ap, _∙_}
 use mathlib.Core.List.{List, [], _∷_, _++_}
-use Prim.Native.Nat.{ℕ, _+_, _≤_, _<_}
+use Prim.Native.Nat.{ℕ, suc, _+_, _-_, _≤_, _<_}
 use native.Mathlib.Nat.{le-of-eq}
 use native.Mathlib.Numerals.{add-one}
-use lib.ListN.{length, take, drop, set, getD, drop-of-length-le}
-use lib.Seq.{drop-cons, getD-take, length-take-le, take-suc-set, append-snoc}
+use native.Mathlib.Omega.{arith}
+use lib.ListN.{length, take, drop, set, getD, replicate, drop-of-length-le}
+use lib.Seq.{drop-cons, getD-take, length-take-le, take-suc-set, append-snoc, set-at}
 
 -- a list from place i on is its element there and the list from place i + 1 on
 pub drop-step : {A : Type 0} (xs : List A) (i : ℕ) (none : A) → i < length xs → drop i xs ≡ getD xs i none ∷ drop (i + 1) xs
@@ -24,3 +25,11 @@ module _ {A : Type 0} (xs : List A) where
   -- the first i, the one stored behind them, and others
   pub store-step : (i : ℕ) (x : A) (later : List A) → i < length xs → take (i + 1) (set xs i x) ++ later ≡ take i xs ++ x ∷ later
   store-step i x later h = rw (add-one i, take-suc-set xs i x h) (append-snoc (take i xs) x later)
+
+-- a row of k places of which the first i are filled: one more
+pub filled-more : {A : Type 0} (filled : List A) (blank x : A) (k i : ℕ) → length filled ≡ i → i < k
+    → set (filled ++ replicate (k - i) blank) i x ≡ (filled ++ (x ∷ [])) ++ replicate (k - (i + 1)) blank
+filled-more {A} filled blank x k i e h =
+    let left = replicate (k - (i + 1)) blank in
+    let places : k - i ≡ suc (k - (i + 1)) = omega arith in
+    ap (λ (n : ℕ). set (filled ++ replicate n blank) i x) places ∙ set-at filled blank left x i e ∙ sym (append-snoc filled x left)

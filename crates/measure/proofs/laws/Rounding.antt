@@ -1,7 +1,7 @@
 -- Laws of `nearest`: the remainder decides it, and bounds.
 use mathlib.Core.Path.{_≡_, sym, ap, _∙_}
 use Prim.Native.Nat.{ℕ, _+_, _-_, _*_, _/_, _%_, _≤_, _<_}
-use native.Mathlib.Nat.{mul-le-mul-left, mul-le-mul-right, div-mul-le-self, div-lt-iff-lt-mul, div-eq-of-lt-le, div-add-mod', mul-one, mul-comm, mul-assoc, mul-left-comm, add-mul, le-trans, le-of-eq}
+use native.Mathlib.Nat.{mul-le-mul-left, mul-le-mul-right, div-mul-le-self, lt-div-mul-add, div-lt-iff-lt-mul, div-eq-of-lt-le, div-add-mod', mul-one, mul-comm, mul-assoc, mul-left-comm, add-mul, le-trans, le-of-eq}
 use native.Mathlib.Omega.{arith}
 use Rattle.measure.specs.Rounding.{nearest}
 
@@ -32,6 +32,17 @@ nearest-up a b l h =
 pub nearest-mul : (a b : ℕ) → nearest a b * (2 * b) ≤ 2 * a + b
 unfolding nearest
 nearest-mul a b = div-mul-le-self (2 * a + b) (2 * b)
+
+-- and a rounded fraction is within a half of the fraction, on a half above it
+pub nearest-within : (a b : ℕ) → 0 < b → (2 * (b * nearest a b) ≤ 2 * a + b) × (2 * a < 2 * (b * nearest a b) + b)
+unfolding nearest
+nearest-within a b h =
+    let p : 0 < 2 * b = omega arith in
+    let lo = div-mul-le-self (2 * a + b) (2 * b) in
+    let hi = lt-div-mul-add {a = 2 * a + b} p in
+    let d = doubled ((2 * a + b) / (2 * b)) b in
+    let e = mul-comm b ((2 * a + b) / (2 * b)) in
+    (omega arith, omega arith)
 
 -- a fraction that is at most a whole number is so when rounded
 pub nearest-cap : (k a b : ℕ) → 0 < b → a ≤ k * b → nearest a b ≤ k

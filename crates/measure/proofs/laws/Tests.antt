@@ -1,4 +1,4 @@
--- Tests and what they say: of a call that was negated, and of a conjunction.
+-- Tests and what they say: of a call that was negated, of a conjunction, and of an order.
 use mathlib.Core.Path.{_≡_, refl, sym, _∙_}
 use mathlib.Core.Bool.{Bool, true, false, not, _&&_}
 use Prim.Native.Nat.{ℕ, _≤_, _<_}
@@ -20,10 +20,15 @@ pub and-right : (a b : Bool) → (a && b) ≡ true → b ≡ true
 and-right true b e = e
 and-right false b e = cc
 
+-- a number is below another or it isn't
+pub by-order : {C : Type 0} (a b : ℕ) → (a < b → C) → (b ≤ a → C) → C
+by-order {C} a b below above = by (ltb a b) refl
+  where
+    by : (t : Bool) → ltb a b ≡ t → C
+    by true e = below (ltb-true a b e)
+    by false e = above (ltb-false a b e)
+
 -- two comparisons that hold and fail together are the same test
 pub same-test : (a b c d : ℕ) → (a < b → c < d) → (b ≤ a → d ≤ c) → ltb a b ≡ ltb c d
-same-test a b c d up down = by (ltb a b) refl
-  where
-    by : (t : Bool) → ltb a b ≡ t → ltb a b ≡ ltb c d
-    by true e = e ∙ sym (lt-ltb c d (up (ltb-true a b e)))
-    by false e = e ∙ sym (le-ltb c d (down (ltb-false a b e)))
+same-test a b c d up down =
+    by-order a b (λ h. lt-ltb a b h ∙ sym (lt-ltb c d (up h))) (λ h. le-ltb a b h ∙ sym (le-ltb c d (down h)))

@@ -8,7 +8,8 @@ use native.Mathlib.Omega.{arith}
 use borrow.Author.Tests.{eqb-true, eqb-false, ltb-true, ltb-false, lt-ltb, le-ltb}
 use lib.Dec.{eqb, ltb}
 use lib.ListN.{length, take, getD, set, replicate, length-set, length-replicate, getD-replicate, List·getD-append}
-use lib.Seq.{length-take-le, getD-set-same, getD-set-other, set-at, append-snoc, take-all}
+use lib.Seq.{length-take-le, getD-set-same, getD-set-other, append-snoc, take-all}
+use Rattle.measure.proofs.laws.Lists.{filled-more}
 use Rattle.spaces.specs.Space.{emptySpace, isRoom}
 use Rattle.spaces.specs.Row.{placeOf, stands, amountOf, sumOf}
 use Rattle.spaces.specs.Enclosure.{above, walked}
@@ -192,14 +193,10 @@ aroundFirst xs i = aroundFrom [] (take i xs) ++ replicate (200 - i) blankAround
 pub around-more : (xs : List Space) (i : ℕ) → i < length xs → length xs ≤ 200
     → set (aroundFirst xs i) i (aroundOf (take i xs) (getD xs i emptySpace)) ≡ aroundFirst xs (i + 1)
 around-more xs i h most =
-    let a = aroundOf (take i xs) (getD xs i emptySpace) in
-    let left = replicate (200 - (i + 1)) blankAround in
-    let one : replicate (200 - i) blankAround ≡ blankAround ∷ left = ap (λ (k : ℕ). replicate k blankAround) (let k : 200 - i ≡ suc (200 - (i + 1)) = omega arith in k) in
+    let x = getD xs i emptySpace in
     let met : length (aroundFrom [] (take i xs)) ≡ i = around-length [] (take i xs) ∙ length-take-le i xs (omega arith) in
-    ap (λ (l : List Around). set (aroundFrom [] (take i xs) ++ l) i a) one
-    ∙ set-at (aroundFrom [] (take i xs)) blankAround left a i met
-    ∙ sym (append-snoc (aroundFrom [] (take i xs)) a left)
-    ∙ ap (λ (l : List Around). l ++ left) (sym (around-snoc [] (take i xs) (getD xs i emptySpace)) ∙ ap (aroundFrom []) (one-passed xs i h))
+    filled-more (aroundFrom [] (take i xs)) blankAround (aroundOf (take i xs) x) 200 i met (omega arith)
+    ∙ ap (λ (l : List Around). l ++ replicate (200 - (i + 1)) blankAround) (sym (around-snoc [] (take i xs) x) ∙ ap (aroundFrom []) (one-passed xs i h))
 
 -- and of all
 pub around-all : (xs : List Space) (i : ℕ) → i ≡ length xs → aroundFirst xs i ≡ eachAround xs

@@ -1,77 +1,74 @@
--- `offsets::measure_offsets` meets its contract: the tests are those of 2 and 3, in the table's order.
-use Prim.Native.Nat.{ℕ}
-use mathlib.Core.Path.{_≡_}
-use mathlib.Core.Bool.{Bool, true, false, not}
+-- `offsets::measure_offsets` meets its contract: accepted offsets pass their roundings on, and have at most 17 stations.
+use mathlib.Core.Path.{_≡_, ap, _∙_}
 use mathlib.Core.List.{List}
+use Prim.Native.Nat.{ℕ, _≤_}
+use native.Mathlib.Omega.{arith}
+use lib.ListN.{length}
+use borrow.Author.Tests.{eq-eqb, ne-eqb}
 use Rattle.measure.specs.Kinds.{kindOf}
-use Rattle.measure.specs.Offsets.{inRange, counted, tonnage, measured}
-use Rattle.measure.specs.Handed.{Taken}
+use Rattle.measure.specs.Offsets.{measured}
+use Rattle.measure.specs.Roundings.{passedOn, noRoundings, measuredOffsets}
 use Rattle.measure.specs.declared.units.Hundredths.{Hundredths}
 use Rattle.measure.specs.declared.kinds.Kind.{Kind}
-use Rattle.measure.proofs.laws.Tests.{holds, fails}
+use Rattle.measure.specs.declared.offsets.Measured.{Measured}
+use Rattle.measure.specs.declared.roundings.Roundings.{Roundings}
+use Rattle.measure.proofs.laws.Parts.{parts-most}
+use Rattle.measure.proofs.laws.Offsets.{accepted-taken, taken-stations}
 use borrow.Author.Needs.{needs}
 use Rattle.measure.proofs.offsets.measure_offsets.Statement.{statement}
 use Rattle.measure.proofs.offsets.measure_offsets.Tie as tie
 
--- the answer by the outcomes of the two tests, each called with the kind found and then negated
-module _ (code : ℕ) (t l : Hundredths) (hs bs : List ℕ) {k : Kind} (kind : k ≡ kindOf code) {r : Bool} (ranged : r ≡ inRange k t l hs bs) where
-  out-of-range : not r ≡ true → record { number = 2; tonnage = 0 } ≡ measured code t l hs bs
-  unfolding measured
-  out-of-range fell = simp (fails (rw kind at ranged) fell)
+-- the answer by what was measured
+module _ (code : ℕ) (t l : Hundredths) (hs bs : List ℕ) {m : Measured} (is : m ≡ measured code t l hs bs) where
+  refused : (m .number ≡ 0 → ⊥) → {r : Roundings} → r ≡ noRoundings → record { measured = m; roundings = r } ≡ measuredOffsets code t l hs bs
+  unfolding measuredOffsets
+  refused some none = rw (is, none, ne-eqb _ 0 (rw is at some))
 
-  module _ (in-range : not r ≡ false) {n : Bool} (numbered : n ≡ counted k t l hs bs) where
-    miscounted : not n ≡ true → record { number = 3; tonnage = 0 } ≡ measured code t l hs bs
-    unfolding measured
-    miscounted fell = simp (holds (rw kind at ranged) in-range, fails (rw kind at numbered) fell)
+  accepted : m .number ≡ 0 → {r : Roundings} → r ≡ passedOn (kindOf code) t l hs → record { measured = m; roundings = r } ≡ measuredOffsets code t l hs bs
+  unfolding measuredOffsets
+  accepted none passed = rw (is, passed, eq-eqb _ 0 (rw is at none))
 
-    taken : not n ≡ false → Taken k t l hs bs
-    taken held = record { ranged = holds ranged in-range; numbered = holds numbered held }
+  few-stations : m .number ≡ 0 → length hs ≤ 17
+  few-stations none =
+      let taken = accepted-taken code t l hs bs (rw is at none) in
+      omega (arith, taken-stations (kindOf code) t l hs bs taken, parts-most (kindOf code) t l)
 
-    accepted : not n ≡ false → {tons : ℕ} → tons ≡ tonnage k t l hs bs → record { number = 0; tonnage = tons } ≡ measured code t l hs bs
-    unfolding measured
-    accepted held e = simp (holds (rw kind at ranged) in-range, holds (rw kind at numbered) held, rw kind at e)
+tonnage-or-refusal-requires : tie.Need-tonnage-or-refusal-requires
+tonnage-or-refusal-requires c κs = search needs
+
+none-requires : tie.Need-none-requires
+none-requires c κs = search needs
+
+returns : tie.Need-returns
+returns c =
+    let m = c .before .before .before in
+    let a = m .before .before .before .args in
+    refused (a .code) (a .tonnage-length) (a .length) (a .heights .now) (a .breadths .now) (m .tonnage-or-refusal .ensures) (c .before .if1 .taken) (c .none .ensures)
 
 kind-of-requires : tie.Need-kind-of-requires
 kind-of-requires c κs = search needs
 
-in-range-requires : tie.Need-in-range-requires
-in-range-requires c κs = search needs
-
-returns : tie.Need-returns
-returns c =
-    let s = c .before .before .before .before .before in
-    out-of-range (s .args .code) (s .args .tonnage-length) (s .args .length) (s .args .heights .now) (s .args .breadths .now) (c .before .before .kind-of .ensures) (c .before .in-range .ensures) (c .if1 .taken)
-
-counted-requires : tie.Need-counted-requires
-counted-requires c κs = search needs
+passed-on-requires : tie.Need-passed-on-requires
+passed-on-requires c κs =
+    let m = c .before .before .before in
+    let a = m .before .before .before .args in
+    few-stations (a .code) (a .tonnage-length) (a .length) (a .heights .now) (a .breadths .now) (m .tonnage-or-refusal .ensures) (c .before .if1 .left)
 
 returns-2 : tie.Need-returns-2
 returns-2 c =
-    let r = c .before .before in
-    let s = r .before .before .before .before .before in
-    miscounted (s .args .code) (s .args .tonnage-length) (s .args .length) (s .args .heights .now) (s .args .breadths .now) (r .before .before .kind-of .ensures) (r .before .in-range .ensures) (r .if1 .left) (c .before .counted .ensures) (c .if2 .taken)
-
-tonnage-requires : tie.Need-tonnage-requires
-tonnage-requires c κs =
-    let r = c .before .before in
-    let s = r .before .before .before .before .before in
-    taken (s .args .code) (s .args .tonnage-length) (s .args .length) (s .args .heights .now) (s .args .breadths .now) (r .before .before .kind-of .ensures) (r .before .in-range .ensures) (r .if1 .left) (c .before .counted .ensures) (c .if2 .left)
-
-returns-3 : tie.Need-returns-3
-returns-3 c =
-    let n = c .before in
-    let r = n .before .before in
-    let s = r .before .before .before .before .before in
-    accepted (s .args .code) (s .args .tonnage-length) (s .args .length) (s .args .heights .now) (s .args .breadths .now) (r .before .before .kind-of .ensures) (r .before .in-range .ensures) (r .if1 .left) (n .before .counted .ensures) (n .if2 .left) (c .tonnage .ensures)
+    let k = c .before in
+    let m = k .before .before .before in
+    let a = m .before .before .before .args in
+    accepted (a .code) (a .tonnage-length) (a .length) (a .heights .now) (a .breadths .now) (m .tonnage-or-refusal .ensures) (k .before .if1 .left)
+    (c .passed-on .ensures ∙ ap (λ (kind : Kind). passedOn kind (a .tonnage-length) (a .length) (a .heights .now)) (k .kind-of .ensures))
 
 pub measure-offsets-spec : {M : Type 1} → statement M
 measure-offsets-spec =
     tie.close
     (tie.spec
-    kind-of-requires
-    in-range-requires
+    tonnage-or-refusal-requires
+    none-requires
     returns
-    counted-requires
-    returns-2
-    tonnage-requires
-    returns-3)
+    kind-of-requires
+    passed-on-requires
+    returns-2)
