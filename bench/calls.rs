@@ -5,19 +5,20 @@ use crate::plain::{self, by_value};
 use std::hint::black_box;
 use std::rc::Rc;
 
-pub fn open(length: u32) -> Box<dyn Call> {
+pub fn open(length: u32, vessel: u32) -> Box<dyn Call> {
     on_each(
-        format!("open {length}"),
-        move |_, _| proved::Sheet::open(length),
-        move |_, _| by_value::open(length),
-        move |sheet, _| sheet.open(length),
+        format!("open {length} {vessel}"),
+        move |_, _| proved::Sheet::open(length, vessel),
+        move |_, _| by_value::open(length, vessel),
+        move |sheet, _| sheet.open(length, vessel),
     )
 }
 
 pub fn enter(entry: Entry, heights: Vec<u32>, breadths: Vec<u32>) -> Box<dyn Call> {
-    let Entry { id, within, kind, standing, fore_end, aft_end, length } = entry;
-    let name = format!("enter {id} {within} {kind} {standing} {length} {heights:?} {breadths:?} {fore_end} {aft_end}");
-    let same = plain::Entry { id, within, kind, standing, fore_end, aft_end, length };
+    let Entry { id, within, kind, standing, fore_end, aft_end, deck, length } = entry;
+    let offsets = format!("{heights:?} {breadths:?}");
+    let name = format!("enter {id} {within} {kind} {standing} {length} {offsets} {fore_end} {aft_end} {deck}");
+    let same = plain::Entry { id, within, kind, standing, fore_end, aft_end, deck, length };
     let offsets = Rc::new((heights, breadths));
     let [first, second, third] = [(); 3].map(|()| offsets.clone());
     on_each(
@@ -29,9 +30,9 @@ pub fn enter(entry: Entry, heights: Vec<u32>, breadths: Vec<u32>) -> Box<dyn Cal
 }
 
 pub fn enter_tank(tank: Tank, depths: Vec<u32>, breadths: Vec<u32>) -> Box<dyn Call> {
-    let Tank { id, within, standing, length, fore } = tank;
-    let name = format!("tank {id} {within} {standing} {length} {fore} {depths:?} {breadths:?}");
-    let same = plain::Tank { id, within, standing, length, fore };
+    let Tank { id, within, standing, deck, length, fore } = tank;
+    let name = format!("tank {id} {within} {standing} {length} {fore} {depths:?} {breadths:?} {deck}");
+    let same = plain::Tank { id, within, standing, deck, length, fore };
     let sections = Rc::new((depths, breadths));
     let [first, second, third] = [(); 3].map(|()| sections.clone());
     on_each(
@@ -116,13 +117,13 @@ pub fn report(justified: u8) -> Box<dyn Call> {
     )
 }
 
-/// Writes the sheet into the buffer, from a byte on.
-pub fn write(justified: u8, at: usize) -> Box<dyn Call> {
+/// Writes the sheet into the buffer in a form, from a byte on.
+pub fn write(justified: u8, form: u8, at: usize) -> Box<dyn Call> {
     on_each(
-        format!("write {justified} {at}"),
-        move |sheet, buffer| sheet.clone().write(justified, buffer, at),
-        move |sheet, buffer| by_value::write(*sheet, justified, buffer, at),
-        move |sheet, buffer| sheet.write(justified, buffer, at),
+        format!("write {justified} {at} in form {form}"),
+        move |sheet, buffer| sheet.clone().write(justified, form, buffer, at),
+        move |sheet, buffer| by_value::write(*sheet, justified, form, buffer, at),
+        move |sheet, buffer| sheet.write(justified, form, buffer, at),
     )
 }
 
@@ -133,6 +134,23 @@ pub fn read(size: usize) -> Box<dyn Call> {
         move |_, buffer| proved::read(&buffer[..size]),
         move |_, buffer| by_value::read(&buffer[..size]),
         move |sheet, buffer| sheet.read(&buffer[..size]),
+    )
+}
+
+/// Moves the last sheet of the first `size` bytes of the buffer into the bytes behind these, in a form, from a byte of them on.
+pub fn move_last(size: usize, form: u8, at: usize) -> Box<dyn Call> {
+    let moved = move |buffer: &mut [u8]| {
+        let (from, to) = buffer.split_at_mut(size);
+        plain::move_last(from, form, to, at)
+    };
+    on_each(
+        format!("move the first {size} bytes in form {form} {at}"),
+        move |_, buffer| {
+            let (from, to) = buffer.split_at_mut(size);
+            proved::move_last(from, form, to, at)
+        },
+        move |_, buffer| moved(buffer),
+        move |_, buffer| moved(buffer),
     )
 }
 

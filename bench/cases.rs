@@ -24,6 +24,8 @@ const POINTED: u8 = 3;
 pub const PLACES: u16 = 200;
 /// The bytes of a full day's file.
 const DAY: usize = 65_536;
+/// The number of the vessel, where its sheet has one.
+const VESSEL: u32 = 1_042;
 
 /// The tonnage length of the sheets, and the greatest there is. A U of either has 17 stations.
 const LENGTH: u32 = 30_000;
@@ -33,40 +35,38 @@ const BROADEST: u32 = 30_000;
 
 // Sheets
 
-/// A sheet of so many spaces, eight deep from ten on, with its last 64 entries undoable.
-pub fn sheet_of(count: u16) -> Result<Desks, String> {
+/// A sheet of so many spaces, eight deep from ten on, with its last 64 entries undoable, that can be written in a form: for form 2 it has
+/// a vessel number, and each space a deck.
+pub fn sheet_of(count: u16, form: u8) -> Result<Desks, String> {
     let mut desks = Desks::new(DAY);
-    set_up(&mut desks, count)?;
+    set_up(&mut desks, count, form)?;
     Ok(desks)
 }
 
 /// Opens that sheet and enters its spaces.
-fn set_up(desks: &mut Desks, count: u16) -> Result<(), String> {
-    calls::open(LENGTH).accept(desks)?;
-    (1..=count).try_for_each(|id| space(id).accept(desks))
+fn set_up(desks: &mut Desks, count: u16, form: u8) -> Result<(), String> {
+    calls::open(LENGTH, if form == 1 { 0 } else { VESSEL }).accept(desks)?;
+    let deck_of = |id: u16| if form == 1 { 0 } else { 1 + (id % 99) as u8 };
+    (1..=count).try_for_each(|id| space(id, deck_of(id)).accept(desks))
 }
 
 /// The space with an id: a superstructure with nothing in it, the U, and another superstructure with a chain of rooms, the lowest of
 /// which, 9, encloses all the others. Those are exempt, so that a mark has to look at each of them.
-fn space(id: u16) -> Box<dyn Call> {
+fn space(id: u16, deck: u8) -> Box<dyn Call> {
+    let entry = Entry { id, deck, ..Entry::default() };
     match id {
-        1 | 3 => divided(id, SUPERSTRUCTURE, LENGTH, 300, 933, 1_000),
-        2 => divided(id, UNDER_DECK, LENGTH, LENGTH, 1_700, 500),
-        4..=9 => undivided(room(id, id - 1, PLAIN, 500), 500, 1_000),
-        _ => undivided(room(id, 9, EXEMPT, 100), 100, 100),
+        1 | 3 => divided(Entry { kind: SUPERSTRUCTURE, length: 300, ..entry }, LENGTH, 933, 1_000),
+        2 => divided(Entry { kind: UNDER_DECK, length: LENGTH, ..entry }, LENGTH, 1_700, 500),
+        4..=9 => undivided(Entry { within: id - 1, kind: ROOM, length: 500, ..entry }, 500, 1_000),
+        _ => undivided(Entry { within: 9, kind: ROOM, standing: EXEMPT, length: 100, ..entry }, 100, 100),
     }
 }
 
-fn room(id: u16, within: u16, standing: u8, length: u32) -> Entry {
-    Entry { id, within, kind: ROOM, standing, length, ..Entry::default() }
-}
-
 /// Enters a U, upright at both ends, or an S, that is as high and as broad at every station.
-fn divided(id: u16, kind: u8, tonnage_length: u32, length: u32, height: u32, breadth: u32) -> Box<dyn Call> {
-    let heights = vec![height; stations(kind, tonnage_length, length)];
-    let breadths = vec![breadth; heights.len() * breadths_at_station(kind, height)];
-    let entry = Entry { id, kind, fore_end: UPRIGHT, aft_end: UPRIGHT, length, ..Entry::default() };
-    calls::enter(entry, heights, breadths)
+fn divided(entry: Entry, tonnage_length: u32, height: u32, breadth: u32) -> Box<dyn Call> {
+    let heights = vec![height; stations(entry.kind, tonnage_length, entry.length)];
+    let breadths = vec![breadth; heights.len() * breadths_at_station(entry.kind, height)];
+    calls::enter(Entry { fore_end: UPRIGHT, aft_end: UPRIGHT, ..entry }, heights, breadths)
 }
 
 /// Enters the U with both ends pointed: it has no breadth there.
@@ -82,7 +82,7 @@ fn pointed(id: u16) -> Box<dyn Call> {
 /// Enters a tank in the U that is as deep and as broad at every section: 16 parts, the most, and two sections at three of its stations.
 /// In thirds of the U's interval it is 44.8 long, from 2.2 on, so that its stations 1, 6 and 16, from 0, lie at 5, 19 and 47.
 fn tank(id: u16) -> Box<dyn Call> {
-    let tank = Tank { id, within: 2, standing: PLAIN, length: 28_000, fore: 1_375 };
+    let tank = Tank { id, within: 2, standing: PLAIN, deck: 0, length: 28_000, fore: 1_375 };
     let asked = lay_out(LENGTH, LENGTH, tank.length, tank.fore);
     assert_eq!((asked.parts, asked.sections), (16, 17 + 3));
     let depths = vec![1_500; asked.sections];
@@ -94,9 +94,12 @@ fn undivided(entry: Entry, height: u32, breadth: u32) -> Box<dyn Call> {
     calls::enter(entry, vec![height], vec![breadth])
 }
 
-/// The bytes of a sheet of so many spaces.
-pub fn size_of_sheet(count: u16) -> usize {
-    16 * usize::from(count) + 28
+/// The bytes of a sheet of so many spaces in a form.
+pub fn size_of_sheet(count: u16, form: u8) -> usize {
+    match form {
+        2 => 20 * usize::from(count) + 32,
+        _ => 16 * usize::from(count) + 28,
+    }
 }
 
 // Cases
@@ -117,7 +120,7 @@ impl Case {
 
     /// A call on a sheet of so many spaces.
     fn on(name: impl Into<String>, count: u16, call: Box<dyn Call>) -> Result<Case, String> {
-        Ok(Case::new(name, sheet_of(count)?, call))
+        Ok(Case::new(name, sheet_of(count, 1)?, call))
     }
 
     /// The same, after other calls.
@@ -133,7 +136,7 @@ fn enter_hatchway(count: u16) -> Result<Case, String> {
 }
 
 fn enter_last(count: u16) -> Result<Case, String> {
-    Case::on(format!("enter the last of {count}, at level 8"), count - 1, space(count))
+    Case::on(format!("enter the last of {count}, at level 8"), count - 1, space(count, 0))
 }
 
 /// A U where the one that stood was withdrawn.
@@ -172,18 +175,36 @@ fn report(count: u16) -> Result<Case, String> {
     Case::on(format!("report {count} spaces"), count, calls::report(0))
 }
 
-fn write(count: u16) -> Result<Case, String> {
-    Case::on(format!("write {count} spaces"), count, calls::write(0, 0))
+fn write(count: u16, form: u8) -> Result<Case, String> {
+    let name = format!("write {count} spaces{}", in_form(form));
+    Ok(Case::new(name, sheet_of(count, form)?, calls::write(0, form, 0)))
 }
 
-fn read(count: u16) -> Result<Case, String> {
-    Case::on(format!("read {count} spaces"), count, calls::read(size_of_sheet(count)))?.after(&[calls::write(0, 0)])
+fn read(count: u16, form: u8) -> Result<Case, String> {
+    let name = format!("read {count} spaces{}", in_form(form));
+    let read = calls::read(size_of_sheet(count, form));
+    Case::new(name, sheet_of(count, form)?, read).after(&[calls::write(0, form, 0)])
+}
+
+/// From form 1 to form 2.
+fn move_up(count: u16) -> Result<Case, String> {
+    let moved = calls::move_last(size_of_sheet(count, 1), 2, 0);
+    Case::on(format!("move {count} spaces up to form 2"), count, moved)?.after(&[calls::write(0, 1, 0)])
+}
+
+/// Form 1 isn't named: it is that of every row that doesn't name one.
+fn in_form(form: u8) -> String {
+    match form {
+        1 => String::new(),
+        _ => format!(" in form {form}"),
+    }
 }
 
 /// The largest U that the rules allow, on a sheet just opened.
 fn largest_under_deck() -> Result<Case, String> {
-    let largest = divided(1, UNDER_DECK, LONGEST, LONGEST, DEEPEST, BROADEST);
-    Case::on("tonnage of the largest U", 0, largest)?.after(&[calls::open(LONGEST)])
+    let under_deck = Entry { id: 1, kind: UNDER_DECK, length: LONGEST, ..Entry::default() };
+    let largest = divided(under_deck, LONGEST, DEEPEST, BROADEST);
+    Case::on("tonnage of the largest U", 0, largest)?.after(&[calls::open(LONGEST, 0)])
 }
 
 /// 20 full sheets; four small ones ahead of them make the bytes exactly a full day's.
@@ -191,9 +212,9 @@ fn full_day() -> Result<Case, String> {
     let mut day = Case::new("read back a full day's file", Desks::new(DAY), calls::read_day());
     let mut at = 0;
     for count in [13, 13, 14, 14].into_iter().chain([PLACES; 20]) {
-        set_up(&mut day.desks, count)?;
-        calls::write(0, at).accept(&mut day.desks)?;
-        at += size_of_sheet(count);
+        set_up(&mut day.desks, count, 1)?;
+        calls::write(0, 1, at).accept(&mut day.desks)?;
+        at += size_of_sheet(count, 1);
     }
     assert_eq!(at, DAY);
     Ok(day)
@@ -215,7 +236,7 @@ pub fn cases() -> Result<Vec<Case>, String> {
         enter_hatchway(100),
         enter_hatchway(PLACES - 1),
         enter_last(PLACES),
-        enter_under_deck("U", space(2)),
+        enter_under_deck("U", space(2, 0)),
         enter_under_deck("pointed U", pointed(2)),
         enter_tank(),
         mark_plain(1),
@@ -231,10 +252,13 @@ pub fn cases() -> Result<Vec<Case>, String> {
         Case::on("counts", PLACES, calls::counts()),
         report(20),
         report(PLACES),
-        write(20),
-        write(PLACES),
-        read(20),
-        read(PLACES),
+        write(20, 1),
+        write(PLACES, 1),
+        write(PLACES, 2),
+        read(20, 1),
+        read(PLACES, 1),
+        read(PLACES, 2),
+        move_up(PLACES),
         largest_under_deck(),
         full_day(),
     ]
@@ -253,6 +277,6 @@ pub const GROWING: [Growing; 6] = [
     Growing { name: "mark the last exempt", with: |count| mark_exempt(count, count) },
     Growing { name: "withdraw the first", with: |count| withdraw(1, count) },
     Growing { name: "report", with: report },
-    Growing { name: "write", with: write },
-    Growing { name: "read", with: read },
+    Growing { name: "write", with: |count| write(count, 1) },
+    Growing { name: "read", with: |count| read(count, 1) },
 ];

@@ -65,8 +65,8 @@ where
 trait Sheet {
     fn outline(&self) -> Outline;
 
-    /// Of the space at a place: id, enclosing id, kind, standing, m, tonnage and length.
-    fn space(&self, place: usize) -> [u32; 7];
+    /// Of the space at a place: id, enclosing id, kind, standing, m, deck, tonnage and length.
+    fn space(&self, place: usize) -> [u32; 8];
 }
 
 /// What can be asked of a sheet, beside its spaces.
@@ -74,6 +74,7 @@ trait Sheet {
 struct Outline {
     open: bool,
     length: u32,
+    vessel: u32,
     standing: usize,
     undoable: usize,
     redoable: usize,
@@ -83,7 +84,7 @@ impl Desks {
     /// Sheets not open, and buffers of zeros.
     pub fn new(buffer_size: usize) -> Desks {
         let by_value = Desk { sheet: plain::Sheet::CLOSED, buffer: vec![0; buffer_size] };
-        let proved = Desk { sheet: proved::Sheet::open(0).sheet, buffer: by_value.buffer.clone() };
+        let proved = Desk { sheet: proved::Sheet::open(0, 0).sheet, buffer: by_value.buffer.clone() };
         Desks { proved, in_place: by_value.clone(), by_value }
     }
 
@@ -151,25 +152,27 @@ fn same<T: PartialEq + Debug>(what: &str, [proved, by_value, in_place]: [T; 3]) 
 impl Sheet for proved::Sheet {
     fn outline(&self) -> Outline {
         let proved::Counted { undoable, redoable, .. } = self.clone().counts();
-        let (open, length, standing) = (self.is_open(), self.tonnage_length(), self.standing_count());
-        Outline { open, length, standing, undoable, redoable }
+        let (length, vessel, standing) = (self.tonnage_length(), self.vessel(), self.standing_count());
+        Outline { open: self.is_open(), length, vessel, standing, undoable, redoable }
     }
 
-    fn space(&self, place: usize) -> [u32; 7] {
-        let proved::Space { id, within, kind, standing, m, tonnage, length } = self.space_at(place);
-        [id.into(), within.into(), kind.into(), standing.into(), m.into(), tonnage, length]
+    fn space(&self, place: usize) -> [u32; 8] {
+        let proved::Space { id, within, kind, standing, m, deck, tonnage, length } = self.space_at(place);
+        [id.into(), within.into(), kind.into(), standing.into(), m.into(), deck.into(), tonnage, length]
     }
 }
 
 impl Sheet for plain::Sheet {
     fn outline(&self) -> Outline {
         let plain::Counts { undoable, redoable } = self.counts();
-        let (open, length, standing) = (self.is_open(), self.tonnage_length(), self.standing().len());
-        Outline { open, length, standing, undoable: undoable.into(), redoable: redoable.into() }
+        let (length, vessel, standing) = (self.tonnage_length(), self.vessel(), self.standing().len());
+        let (undoable, redoable) = (undoable.into(), redoable.into());
+        Outline { open: self.is_open(), length, vessel, standing, undoable, redoable }
     }
 
-    fn space(&self, place: usize) -> [u32; 7] {
-        let plain::Space { id, within, kind, standing, m, tonnage, length, .. } = self.standing()[place];
-        [id.into(), within.into(), kind as u32, standing as u32, m.into(), tonnage, length]
+    fn space(&self, place: usize) -> [u32; 8] {
+        let space = &self.standing()[place];
+        let &plain::Space { id, within, kind, standing, deck, tonnage, length, .. } = space;
+        [id.into(), within.into(), kind as u32, standing as u32, space.m().into(), deck.into(), tonnage, length]
     }
 }

@@ -1,4 +1,5 @@
-//! Calls at random, made on each desk: so many that every number of refusal occurs, and third intervals are rounded both ways.
+//! Calls at random, made on each desk: so many that every number of refusal occurs, each of a move's in a move, and third intervals are
+//! rounded both ways.
 use crate::answers::Seen;
 use crate::calls;
 use crate::cases::{sheet_of, size_of_sheet, PLACES};
@@ -8,10 +9,15 @@ use crate::fummidrake::{breadths_at_station, lay_out, stations, Entry, Tank};
 const RUNS: usize = 600;
 const CALLS_A_RUN: usize = 100;
 /// The numbers of refusal, and 0; the greatest is 29.
-const NUMBERS: [usize; 21] = [0, 1, 2, 3, 4, 5, 6, 7, 8, 9, 10, 11, 12, 13, 14, 15, 16, 17, 18, 19, 29];
+const NUMBERS: [usize; 22] = [0, 1, 2, 3, 4, 5, 6, 7, 8, 9, 10, 11, 12, 13, 14, 15, 16, 17, 18, 19, 20, 29];
 const GREATEST: usize = 29;
+/// Those of a move.
+const NUMBERS_OF_MOVE: [usize; 9] = [0, 2, 13, 14, 15, 16, 17, 18, 20];
 
 const UNDER_DECK: u8 = 1;
+/// Two bytes of the trailer, counted from the last one, from 0.
+const MARK: usize = 21;
+const BYTE_OF_FORM: usize = 20;
 
 /// Numbers at random, the same ones every time (xorshift64).
 struct Dice(u64);
@@ -44,6 +50,7 @@ struct Survey<'a> {
 #[derive(Default)]
 struct Occurred {
     numbers: [bool; GREATEST + 1],
+    numbers_of_move: [bool; GREATEST + 1],
     lengths: Rounded,
     depths: Rounded,
 }
@@ -74,6 +81,9 @@ impl Occurred {
         if let Some(number) = NUMBERS.into_iter().find(|&number| !self.numbers[number]) {
             return Err(format!("no call at random was refused with {number}"));
         }
+        if let Some(number) = NUMBERS_OF_MOVE.into_iter().find(|&number| !self.numbers_of_move[number]) {
+            return Err(format!("no move at random was answered with {number}"));
+        }
         for (what, rounded) in [("length", &self.lengths), ("depth", &self.depths)] {
             if !(rounded.up && rounded.down) {
                 return Err(format!("at random no third interval of {what} was rounded up, or none down"));
@@ -85,7 +95,8 @@ impl Occurred {
 
 /// Makes calls at random; an error where answers differ, or where a number of refusal or a rounding either way didn't occur.
 pub fn check() -> Result<(), String> {
-    let starts: Vec<Desks> = [0, 2, 30, PLACES].into_iter().map(sheet_of).collect::<Result<_, _>>()?;
+    let sheets = [1, 2].into_iter().flat_map(|form| [0, 2, 30, PLACES].map(|count| sheet_of(count, form)));
+    let starts: Vec<Desks> = sheets.collect::<Result<_, _>>()?;
     let mut dice = Dice(88_172_645_463_325_252);
     let mut occurred = Occurred::default();
     for _ in 0..RUNS {
@@ -98,11 +109,11 @@ pub fn check() -> Result<(), String> {
 
 impl Survey<'_> {
     fn step(&mut self) -> Result<(), String> {
-        if self.dice.one_in(10) {
+        if self.dice.one_in(5) {
             return self.write_and_read();
         }
         let call = match self.dice.below(100) {
-            0 => calls::open(self.dice.one_of(&[99, 100, 100, 4_500, 150_000])),
+            0 => self.opening(),
             1..=47 => self.entry(),
             48..=57 => self.tank(),
             58..=59 => self.question(),
@@ -112,32 +123,81 @@ impl Survey<'_> {
             91..=95 => calls::redo(),
             _ => calls::report(self.dice.below(3) as u8),
         };
-        self.make(&*call)
+        self.make(&*call).map(drop)
     }
 
-    fn make(&mut self, call: &dyn Call) -> Result<(), String> {
-        self.occurred.note(&call.make(&mut self.desks)?);
-        Ok(())
+    fn make(&mut self, call: &dyn Call) -> Result<Seen, String> {
+        let seen = call.make(&mut self.desks)?;
+        self.occurred.note(&seen);
+        Ok(seen)
     }
 
-    /// Writes the sheet at some place and reads it back, mostly with a bit of it changed. The sheet read is taken if it is open.
+    fn opening(&mut self) -> Box<dyn Call> {
+        let length = self.dice.one_of(&[99, 100, 100, 4_500, 150_000]);
+        calls::open(length, self.dice.one_of(&[0, 0, 1, 1_042, u32::MAX]))
+    }
+
+    /// Writes the sheet at some place, and reads it back from there or from where it was moved, mostly with a bit of it changed. The sheet
+    /// read is taken if it is open. Where the write was refused, what lies there is seldom read.
     fn write_and_read(&mut self) -> Result<(), String> {
+        let form = self.form();
         let at = self.dice.below(4_000) as usize;
-        let size = size_of_sheet(self.desks.in_place.sheet.standing().len() as u16);
-        let call = calls::write(self.dice.below(3) as u8, if self.dice.one_in(10) { usize::MAX - at } else { at });
-        self.make(&*call)?;
+        let end = at + self.size(form);
+        let place = if self.dice.one_in(10) { usize::MAX - at } else { at };
+        let justified = self.dice.one_of(&[0, 0, 1, 1, 1, 1, 1, 2]);
+        let written = self.make(&*calls::write(justified, form, place))?.number == 0;
+        if !written && !self.dice.one_in(10) {
+            return Ok(());
+        }
         let before = self.desks.clone();
         if !self.dice.one_in(4) {
-            let from_end = if self.dice.one_in(2) { self.dice.below(28) } else { self.dice.below(size as u64) };
-            let place = at + size - 1 - from_end as usize;
-            let bit = 1 << self.dice.below(8);
-            self.desks.buffers().into_iter().for_each(|buffer| buffer[place] ^= bit);
+            self.change_a_bit(end, end - at);
         }
-        self.make(&*calls::read(at + size))?;
+        let end = if self.dice.one_in(2) { self.moved(end)? } else { end };
+        self.make(&*calls::read(end))?;
         if !self.desks.in_place.sheet.is_open() {
             self.desks = before;
         }
         Ok(())
+    }
+
+    /// Of the last sheet before an end, which has so many bytes: often in its trailer, and there often the mark, or what tells the two forms
+    /// apart.
+    fn change_a_bit(&mut self, end: usize, size: usize) {
+        let (from_end, bit) = match self.dice.below(4) {
+            0 => self.dice.one_of(&[(MARK, 0), (BYTE_OF_FORM, 1)]),
+            1 => (self.dice.below(28) as usize, self.dice.below(8)),
+            _ => (self.dice.below(size as u64) as usize, self.dice.below(8)),
+        };
+        self.desks.buffers().into_iter().for_each(|buffer| buffer[end - 1 - from_end] ^= 1 << bit);
+    }
+
+    /// Moves the last sheet before an end behind that, and says where it ends now: refused, there still. The place is mostly near; or the
+    /// last with room enough, or the next; or past the buffer.
+    fn moved(&mut self, end: usize) -> Result<usize, String> {
+        let form = self.form();
+        let last_place = self.desks.in_place.buffer.len() - end - self.size(form);
+        let at = match self.dice.below(10) {
+            0 => usize::MAX - self.dice.below(4_000) as usize,
+            1 => last_place + self.dice.below(2) as usize,
+            _ => self.dice.below(100) as usize,
+        };
+        let seen = self.make(&*calls::move_last(end, form, at))?;
+        self.occurred.numbers_of_move[usize::from(seen.number)] = true;
+        Ok(if seen.number == 0 { end + at + seen.values[0] as usize } else { end })
+    }
+
+    /// Of the sheet as it stands.
+    fn size(&self, form: u8) -> usize {
+        size_of_sheet(self.desks.in_place.sheet.standing().len() as u16, form)
+    }
+
+    /// One of the two, and now and then neither.
+    fn form(&mut self) -> u8 {
+        match self.dice.below(20) {
+            0 => self.dice.one_of(&[0, 3]),
+            _ => self.dice.one_of(&[1, 2]),
+        }
     }
 
     /// An id, mostly of a space that stands, and among those often the last.
@@ -160,6 +220,7 @@ impl Survey<'_> {
             standing: self.dice.one_of(&[0, 0, 0, 0, 0, 1, 1, 2, 2, 3, 4]),
             fore_end: self.end_of_under_deck(),
             aft_end: self.end_of_under_deck(),
+            deck: self.deck(),
             length: self.length(tonnage_length),
         };
         let most = self.dice.one_of(&[100, 100, 1_600, 20_000]);
@@ -198,6 +259,14 @@ impl Survey<'_> {
         }
     }
 
+    /// Mostly none, since form 1 holds none; and now and then 100.
+    fn deck(&mut self) -> u8 {
+        match self.dice.below(8) {
+            0 => self.dice.below(101) as u8,
+            _ => 0,
+        }
+    }
+
     /// Half the time a section without area, or nearly so: a depth's third interval is 0 up to a depth of 5 in 4 parts, of 8 in 6.
     fn point(&mut self, depth: &mut u32, breadths: &mut [u32]) {
         match self.dice.below(4) {
@@ -212,12 +281,13 @@ impl Survey<'_> {
         let sheet = &self.desks.in_place.sheet;
         let tonnage_length = sheet.tonnage_length();
         let under_deck = sheet.standing().iter().find(|space| space.kind as u8 == UNDER_DECK);
-        let (within, whole, m) = under_deck.map_or((1, 4_000, 4), |space| (space.id, space.length, space.m));
+        let (within, whole, m) = under_deck.map_or((1, 4_000, 4), |space| (space.id, space.length, space.m()));
         let [length, fore] = self.ends(tonnage_length, whole);
         let tank = Tank {
             id: if self.dice.one_in(20) { self.id() } else { 1 + self.dice.below(9_999) as u16 },
             within: if self.dice.one_in(10) { self.id() } else { within },
             standing: self.dice.one_of(&[0, 0, 0, 1, 2, 3, 4]),
+            deck: self.deck(),
             length,
             fore,
         };

@@ -1,8 +1,9 @@
 /* Fummidrake for C: a surveyor's sheet of spaces, its tonnages by 46 CFR 69.107 to 69.119, and the day's file.
  *
  * Every call takes any numbers and any sheet, ends, and answers what its promise in crates/fummidrake/src/lib.rt says; nothing
- * has to be checked first, but that a pointer is not null and has as many numbers or bytes behind it as are said. A sheet goes in
- * by value and comes back with the answer; the calls that end in _on, at the end of this file, change the caller's sheet in place.
+ * has to be checked first, but that a pointer is not null and has as many numbers or bytes behind it as are said, and that the two
+ * buffers of a move don't overlap. A sheet goes in by value and comes back with the answer; the calls that end in _on, at the end of
+ * this file, change the caller's sheet in place.
  * A sheet's fields are for the calls alone: a sheet comes from fummidrake_open, fummidrake_read or a call, and one that is all zeros
  * is not open.
  *
@@ -13,13 +14,21 @@
  * Kinds: 1 U under-deck part, 2 B between-deck level, 3 S superstructure, 4 H hatchway, 5 R room.
  * Standings: 0 plain, 1 exempt, 2 exempt as water ballast, 3 deducted.
  * Ends of a U: 1 inner (at a step), 2 upright, 3 pointed.
+ * Decks: 0 to 99, 0 for none. Vessel numbers: any, 0 for none.
+ * Forms of a sheet in a file: 1 has 16 bytes a space and 28 behind them; 2 has 20 and 32, with the decks and the vessel number.
  *
- * An answer's number is 0 where the call was accepted, else the lowest that applies (in reading: 16, 17, 13, 14, 18 in that order):
+ * How to move a file up to form 2: fummidrake_read and then fummidrake_read_before answer, from the last sheet to the first, where
+ * each starts. Then, from the first to the last, fummidrake_move_last takes the bytes up to the end of a sheet, where the next one
+ * starts, and writes that sheet in form 2 into another buffer, behind the one before. Decks and vessel number are 0 there; moved to
+ * form 1 the same way the bytes come back.
+ *
+ * An answer's number is 0 where the call was accepted, else the lowest that applies; but in reading it is the first of 16, 17, 13, 14,
+ * 18 in that order, in a write 20 stands before 15, and in a move it is 2, then those of reading in their order, then 20, then 15:
  *
  * | No. | Refused when |
  * |---|---|
  * | 1 | sheet not open |
- * | 2 | a kind, measure, standing, justified mark or end of a U outside its range; a tank's fore end over 150,000 |
+ * | 2 | a kind, measure, standing, justified mark, end of a U, deck or form outside its range; a tank's fore end over 150,000 |
  * | 3 | stations, depths, heights or breadths not the number the rules ask; of a tank, a section or breadth missing or extra |
  * | 4 | new id outside its range or already standing |
  * | 5 | id to withdraw or mark, or enclosing id, isn't standing |
@@ -32,11 +41,12 @@
  * | 12 | nothing undoable, or nothing redoable |
  * | 13 | U lengths don't add up to the tonnage length |
  * | 14 | ballast over 30%, not justified |
- * | 15 | buffer has too little room from the named place |
- * | 16 | file shorter than 28 bytes or than its distance; count over 200; distance, zero byte, mark or tonnage length wrong |
- * | 17 | a record that no entry could have made, with its position from 1 |
+ * | 15 | buffer has too little room from the named place, in the form asked for |
+ * | 16 | file shorter than 28 bytes or than its distance; count over 200; distance, form, mark or tonnage length wrong |
+ * | 17 | a record that no entry could have made, as one with a deck over 99; with its position from 1 |
  * | 18 | gross or net isn't what the records give |
  * | 19 | a pointed end of a U has area |
+ * | 20 | a write or move in form 1 would lose a deck or the vessel number |
  * | 29 | a tank in a U that has no m: one read from a file; enter the U anew |
  */
 #ifndef FUMMIDRAKE_H
@@ -48,8 +58,8 @@
 
 #define FUMMIDRAKE_VERSION "0.1.0"
 
-/* The stack that a call takes in either form, in bytes, with the sheet that goes in and the answer that comes back: at most so many,
- * measured with a full sheet of 200 spaces, eight deep, and 64 changes (tools/stack.c). The first is the greatest of them. */
+/* The stack that a call takes, by value or in place, in bytes, with the sheet that goes in and the answer that comes back: at most so
+ * many, measured with a full sheet of 200 spaces, eight deep, and 64 changes (tools/stack.c). The first is the greatest of them. */
 #define FUMMIDRAKE_STACK FUMMIDRAKE_STACK_LIST
 #define FUMMIDRAKE_STACK_OPEN 8000
 #define FUMMIDRAKE_STACK_ENTER 27000
@@ -59,19 +69,21 @@
 #define FUMMIDRAKE_STACK_UNDO 20000
 #define FUMMIDRAKE_STACK_REDO 19000
 #define FUMMIDRAKE_STACK_COUNTS 12000
-#define FUMMIDRAKE_STACK_REPORT 26000
+#define FUMMIDRAKE_STACK_REPORT 15000
 #define FUMMIDRAKE_STACK_IS_OPEN 6000
 #define FUMMIDRAKE_STACK_TONNAGE_LENGTH 6000
+#define FUMMIDRAKE_STACK_VESSEL 6000
 #define FUMMIDRAKE_STACK_STANDING_COUNT 6000
 #define FUMMIDRAKE_STACK_SPACE_AT 9000
 #define FUMMIDRAKE_STACK_STATIONS 1000
 #define FUMMIDRAKE_STACK_BREADTHS_AT_STATION 1000
 #define FUMMIDRAKE_STACK_LAY_OUT 1000
 #define FUMMIDRAKE_STACK_SECTION_STATION 1000
-#define FUMMIDRAKE_STACK_WRITE 29000
-#define FUMMIDRAKE_STACK_READ 80000
-#define FUMMIDRAKE_STACK_READ_BEFORE 80000
-#define FUMMIDRAKE_STACK_LIST 104000
+#define FUMMIDRAKE_STACK_WRITE 18000
+#define FUMMIDRAKE_STACK_READ 75000
+#define FUMMIDRAKE_STACK_READ_BEFORE 75000
+#define FUMMIDRAKE_STACK_MOVE_LAST 70000
+#define FUMMIDRAKE_STACK_LIST 93000
 
 /* Has the compiler warn where an answer is dropped, if it can: a sheet that is not kept is lost, and a refusal not looked at. */
 #if defined(__GNUC__)
@@ -85,18 +97,19 @@ extern "C" {
 #endif
 
 /* A space as it stands; `within` is the enclosing id, 0 for a U, B, S or H. `m` is a U's parts of depth, 4 or 6, where it was entered
- * from offsets; else 0, and 0 for all that was read from a file. */
+ * from offsets; else 0, and 0 for all that was read from a file. `deck` is 0 to 99, 0 for none. */
 typedef struct {
     uint16_t id;
     uint16_t within;
     uint8_t kind;
     uint8_t standing;
     uint8_t m;
+    uint8_t deck;
     uint32_t tonnage;
     uint32_t length;
 } fummidrake_space;
 
-/* What is entered; `within` is looked at only of a room, `fore_end` and `aft_end` only of a U. */
+/* What is entered; `within` is looked at only of a room, `fore_end` and `aft_end` only of a U, `deck` of any. */
 typedef struct {
     uint16_t id;
     uint16_t within;
@@ -104,6 +117,7 @@ typedef struct {
     uint8_t standing;
     uint8_t fore_end;
     uint8_t aft_end;
+    uint8_t deck;
     uint32_t length;
 } fummidrake_entry;
 
@@ -112,6 +126,7 @@ typedef struct {
     uint16_t id;
     uint16_t within;
     uint8_t standing;
+    uint8_t deck;
     uint32_t length;
     uint32_t fore;
 } fummidrake_tank;
@@ -134,6 +149,7 @@ typedef struct {
     fummidrake_open_change changes[64];
     size_t undoable;
     size_t redoable;
+    uint32_t vessel;
 } fummidrake_sheet;
 
 /* The number, and the sheet after the call: where refused, as it came. */
@@ -187,14 +203,23 @@ typedef struct {
     fummidrake_sheet sheet;
 } fummidrake_written;
 
-/* The number, the position of the record where it is 17, the sheet, its justified mark and the byte at which it starts. */
+/* The number, the position of the record where it is 17, the sheet, its justified mark, the byte at which it starts and the form in
+ * which it was read. */
 typedef struct {
     uint8_t number;
     size_t position;
     fummidrake_sheet sheet;
     uint8_t justified;
     size_t start;
+    uint8_t form;
 } fummidrake_reading;
+
+/* The number, the bytes written (0 where refused), and the position of the record where the number is 17. */
+typedef struct {
+    uint8_t number;
+    size_t bytes;
+    size_t position;
+} fummidrake_moved;
 
 /* A text: the first `size` bytes; zeros follow. */
 typedef struct {
@@ -216,6 +241,7 @@ FUMMIDRAKE_FIELD(fummidrake_space, within, 2);
 FUMMIDRAKE_FIELD(fummidrake_space, kind, 4);
 FUMMIDRAKE_FIELD(fummidrake_space, standing, 5);
 FUMMIDRAKE_FIELD(fummidrake_space, m, 6);
+FUMMIDRAKE_FIELD(fummidrake_space, deck, 7);
 FUMMIDRAKE_FIELD(fummidrake_space, tonnage, 8);
 FUMMIDRAKE_FIELD(fummidrake_space, length, 12);
 FUMMIDRAKE_SIZE(fummidrake_space, 16);
@@ -225,11 +251,13 @@ FUMMIDRAKE_FIELD(fummidrake_entry, kind, 4);
 FUMMIDRAKE_FIELD(fummidrake_entry, standing, 5);
 FUMMIDRAKE_FIELD(fummidrake_entry, fore_end, 6);
 FUMMIDRAKE_FIELD(fummidrake_entry, aft_end, 7);
-FUMMIDRAKE_FIELD(fummidrake_entry, length, 8);
-FUMMIDRAKE_SIZE(fummidrake_entry, 12);
+FUMMIDRAKE_FIELD(fummidrake_entry, deck, 8);
+FUMMIDRAKE_FIELD(fummidrake_entry, length, 12);
+FUMMIDRAKE_SIZE(fummidrake_entry, 16);
 FUMMIDRAKE_FIELD(fummidrake_tank, id, 0);
 FUMMIDRAKE_FIELD(fummidrake_tank, within, 2);
 FUMMIDRAKE_FIELD(fummidrake_tank, standing, 4);
+FUMMIDRAKE_FIELD(fummidrake_tank, deck, 5);
 FUMMIDRAKE_FIELD(fummidrake_tank, length, 8);
 FUMMIDRAKE_FIELD(fummidrake_tank, fore, 12);
 FUMMIDRAKE_SIZE(fummidrake_tank, 16);
@@ -246,26 +274,27 @@ FUMMIDRAKE_FIELD(fummidrake_sheet, count, 3208);
 FUMMIDRAKE_FIELD(fummidrake_sheet, changes, 3216);
 FUMMIDRAKE_FIELD(fummidrake_sheet, undoable, 5264);
 FUMMIDRAKE_FIELD(fummidrake_sheet, redoable, 5272);
-FUMMIDRAKE_SIZE(fummidrake_sheet, 5280);
+FUMMIDRAKE_FIELD(fummidrake_sheet, vessel, 5280);
+FUMMIDRAKE_SIZE(fummidrake_sheet, 5288);
 FUMMIDRAKE_FIELD(fummidrake_changed, number, 0);
 FUMMIDRAKE_FIELD(fummidrake_changed, sheet, 8);
-FUMMIDRAKE_SIZE(fummidrake_changed, 5288);
+FUMMIDRAKE_SIZE(fummidrake_changed, 5296);
 FUMMIDRAKE_FIELD(fummidrake_roundings, length, 0);
 FUMMIDRAKE_FIELD(fummidrake_roundings, depths, 1);
 FUMMIDRAKE_SIZE(fummidrake_roundings, 18);
 FUMMIDRAKE_FIELD(fummidrake_entering, number, 0);
 FUMMIDRAKE_FIELD(fummidrake_entering, roundings, 1);
 FUMMIDRAKE_FIELD(fummidrake_entering, sheet, 24);
-FUMMIDRAKE_SIZE(fummidrake_entering, 5304);
+FUMMIDRAKE_SIZE(fummidrake_entering, 5312);
 FUMMIDRAKE_FIELD(fummidrake_counted, undoable, 0);
 FUMMIDRAKE_FIELD(fummidrake_counted, redoable, 8);
 FUMMIDRAKE_FIELD(fummidrake_counted, sheet, 16);
-FUMMIDRAKE_SIZE(fummidrake_counted, 5296);
+FUMMIDRAKE_SIZE(fummidrake_counted, 5304);
 FUMMIDRAKE_FIELD(fummidrake_reported, number, 0);
 FUMMIDRAKE_FIELD(fummidrake_reported, gross, 8);
 FUMMIDRAKE_FIELD(fummidrake_reported, net, 16);
 FUMMIDRAKE_FIELD(fummidrake_reported, sheet, 24);
-FUMMIDRAKE_SIZE(fummidrake_reported, 5304);
+FUMMIDRAKE_SIZE(fummidrake_reported, 5312);
 FUMMIDRAKE_FIELD(fummidrake_laid_out, number, 0);
 FUMMIDRAKE_FIELD(fummidrake_laid_out, parts, 8);
 FUMMIDRAKE_FIELD(fummidrake_laid_out, sections, 16);
@@ -273,13 +302,18 @@ FUMMIDRAKE_SIZE(fummidrake_laid_out, 24);
 FUMMIDRAKE_FIELD(fummidrake_written, number, 0);
 FUMMIDRAKE_FIELD(fummidrake_written, bytes, 8);
 FUMMIDRAKE_FIELD(fummidrake_written, sheet, 16);
-FUMMIDRAKE_SIZE(fummidrake_written, 5296);
+FUMMIDRAKE_SIZE(fummidrake_written, 5304);
 FUMMIDRAKE_FIELD(fummidrake_reading, number, 0);
 FUMMIDRAKE_FIELD(fummidrake_reading, position, 8);
 FUMMIDRAKE_FIELD(fummidrake_reading, sheet, 16);
-FUMMIDRAKE_FIELD(fummidrake_reading, justified, 5296);
-FUMMIDRAKE_FIELD(fummidrake_reading, start, 5304);
-FUMMIDRAKE_SIZE(fummidrake_reading, 5312);
+FUMMIDRAKE_FIELD(fummidrake_reading, justified, 5304);
+FUMMIDRAKE_FIELD(fummidrake_reading, start, 5312);
+FUMMIDRAKE_FIELD(fummidrake_reading, form, 5320);
+FUMMIDRAKE_SIZE(fummidrake_reading, 5328);
+FUMMIDRAKE_FIELD(fummidrake_moved, number, 0);
+FUMMIDRAKE_FIELD(fummidrake_moved, bytes, 8);
+FUMMIDRAKE_FIELD(fummidrake_moved, position, 16);
+FUMMIDRAKE_SIZE(fummidrake_moved, 24);
 FUMMIDRAKE_FIELD(fummidrake_listing, text, 0);
 FUMMIDRAKE_FIELD(fummidrake_listing, size, 8192);
 FUMMIDRAKE_SIZE(fummidrake_listing, 8200);
@@ -288,9 +322,10 @@ FUMMIDRAKE_SIZE(fummidrake_listing, 8200);
 #undef FUMMIDRAKE_HOLDS
 #endif
 
-/* Opens a new sheet with a tonnage length; refused with 2, and a sheet not open, where it is outside its range. */
+/* Opens a new sheet with a tonnage length and a vessel number, any, 0 for none; refused with 2, and a sheet not open, where the length
+ * is outside its range. The vessel number stays with the sheet. */
 FUMMIDRAKE_MUST_USE
-fummidrake_changed fummidrake_open(uint32_t length);
+fummidrake_changed fummidrake_open(uint32_t length, uint32_t vessel);
 
 /* Enters a space from its offsets: for a U the depths at the stations, and the breadths station by station from the bow, at each
  * from above; for a B or S one height and one breadth a station; for an H or R one of each. A pointed end of a U has no area: its
@@ -341,6 +376,10 @@ bool fummidrake_is_open(fummidrake_sheet sheet);
 FUMMIDRAKE_MUST_USE
 uint32_t fummidrake_tonnage_length(fummidrake_sheet sheet);
 
+/* Gives the vessel number; 0 on a sheet not open. */
+FUMMIDRAKE_MUST_USE
+uint32_t fummidrake_vessel(fummidrake_sheet sheet);
+
 /* Says how many spaces stand; none on a sheet not open. */
 FUMMIDRAKE_MUST_USE
 size_t fummidrake_standing_count(fummidrake_sheet sheet);
@@ -367,13 +406,15 @@ fummidrake_laid_out fummidrake_lay_out(uint32_t tonnage_length, uint32_t under_d
 FUMMIDRAKE_MUST_USE
 size_t fummidrake_section_station(uint32_t tonnage_length, uint32_t under_deck, uint32_t length, uint32_t fore, size_t section);
 
-/* Writes the sheet with its justified mark into a buffer, from the byte `at` on: 16 bytes a space and 28 behind them; no byte
- * before or after is touched, and none where refused, with 1, 2, 13, 14, 15. */
+/* Writes the sheet with its justified mark into a buffer, from the byte `at` on, in a form: in form 1 16 bytes a space and 28 behind
+ * them, in form 2 20 and 32. No byte before or after is touched, and none where refused, with 1, 2, 13, 14, 20, 15. */
 FUMMIDRAKE_MUST_USE
-fummidrake_written fummidrake_write(fummidrake_sheet sheet, uint8_t justified, uint8_t *buf, size_t buf_bytes, size_t at);
+fummidrake_written fummidrake_write(fummidrake_sheet sheet, uint8_t justified, uint8_t form, uint8_t *buf, size_t buf_bytes,
+                                    size_t at);
 
 /* Reads the last sheet of a file, which may be any bytes; the bytes ahead of its start are the earlier sheets, read the same way.
- * Refused, with a sheet not open, mark 0 and start 0, with 16, 17, 13, 14, 18. */
+ * Either form is read, and answered; a sheet in form 1 has no decks and no vessel number. Refused, with a sheet not open, mark 0,
+ * start 0 and form 0, with 16, 17, 13, 14, 18. */
 FUMMIDRAKE_MUST_USE
 fummidrake_reading fummidrake_read(const uint8_t *file, size_t file_bytes);
 
@@ -381,13 +422,19 @@ fummidrake_reading fummidrake_read(const uint8_t *file, size_t file_bytes);
 FUMMIDRAKE_MUST_USE
 fummidrake_reading fummidrake_read_before(const uint8_t *file, size_t file_bytes, size_t start);
 
-/* Lists the last sheet of a file: its tonnage length, a line a space, gross and net; or REFUSED, the number and the position. A file
- * has at most 65,536 bytes here: a longer one is listed as REFUSED 16 0, whatever it holds. */
+/* Moves the last sheet of the file `from`, with its mark, into the buffer `to`, from the byte `at` on, in a form, which may be the one
+ * it has. It takes no sheet, and the two must not overlap. No byte before or after is touched, and none where refused, with 2, 16, 17,
+ * 13, 14, 18, 20, 15. */
+FUMMIDRAKE_MUST_USE
+fummidrake_moved fummidrake_move_last(const uint8_t *from, size_t from_bytes, uint8_t form, uint8_t *to, size_t to_bytes, size_t at);
+
+/* Lists the last sheet of a file, in either form: its tonnage length, a line a space, gross and net; or REFUSED, the number and the
+ * position. A file has at most 65,536 bytes here: a longer one is listed as REFUSED 16 0, whatever it holds. */
 FUMMIDRAKE_MUST_USE
 fummidrake_listing fummidrake_list(const uint8_t *file, size_t file_bytes);
 
 /* The same calls in place: each takes a pointer to the caller's sheet, replaces that sheet by the one that the call hands back (where
- * refused, as it was), and answers what else there is. Opening and reading take no sheet, and have no such form. */
+ * refused, as it was), and answers what else there is. Opening, reading and moving take no sheet, and are not among them. */
 
 /* The number, and what the rounding did. */
 typedef struct {
@@ -485,9 +532,9 @@ static inline fummidrake_reported_on fummidrake_report_on(fummidrake_sheet *shee
 
 /* Writes the sheet, which it leaves as it was, into a buffer from the byte `at` on: see fummidrake_write. */
 FUMMIDRAKE_MUST_USE
-static inline fummidrake_written_on fummidrake_write_on(fummidrake_sheet *sheet, uint8_t justified, uint8_t *buf, size_t buf_bytes,
-                                                        size_t at) {
-    fummidrake_written answer = fummidrake_write(*sheet, justified, buf, buf_bytes, at);
+static inline fummidrake_written_on fummidrake_write_on(fummidrake_sheet *sheet, uint8_t justified, uint8_t form, uint8_t *buf,
+                                                        size_t buf_bytes, size_t at) {
+    fummidrake_written answer = fummidrake_write(*sheet, justified, form, buf, buf_bytes, at);
     fummidrake_written_on values = {answer.number, answer.bytes};
     *sheet = answer.sheet;
     return values;

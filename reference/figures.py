@@ -14,7 +14,7 @@ import sys
 from fractions import Fraction
 from math import gcd
 from random import Random
-from typing import Any, Callable, Iterator, NamedTuple, Sequence
+from typing import Any, Callable, Iterator, NamedTuple, Sequence, TypeVar
 
 from reference import command_line, measure as m
 from reference.measure import B, H, R, S, U
@@ -22,6 +22,8 @@ from reference.survey import (
     GREATEST_MEASURE, GREATEST_NUMBER, MOST_NUMBERS, Reader, a_code, a_measure, answer_to, answers_to, arguments, in_a_list,
     measures, number,
 )
+
+Item = TypeVar("Item")
 
 
 # The protocol
@@ -108,7 +110,7 @@ UNDIVIDED = (H, R)
 NUMBERS_OF_PARTS = {U: tuple(m.EVEN_NUMBERS), B: tuple(range(6, 17, 2)), S: tuple(m.EVEN_NUMBERS)}
 
 
-def one_of(rng: Random, items: Sequence[int]) -> int:
+def one_of(rng: Random, items: Sequence[Item]) -> Item:
     """One of the items, each as likely."""
     return items[rng.randrange(len(items))]
 

@@ -5,20 +5,20 @@ chance makes says nothing and is only compared.
 """
 
 from functools import cache
-from itertools import combinations
+from itertools import combinations, product
 from random import Random
 from typing import Callable, Iterable, Iterator, NamedTuple, Sequence
 
 from reference import dayfile, measure as m, sheet as s
 from reference.dayfile import (
-    GREATEST_TONNAGE, LETTERS, MOST_BYTES, RECORD, TRAILER, WRONG_FILE, WRONG_RECORD, WRONG_SUMS, Record, as_bytes,
-    distance, space_of,
+    FORM_1, FORM_2, FORMS, GREATEST_TONNAGE, LETTERS, MOST_BYTES, TRAILER, WRONG_FILE, WRONG_RECORD, WRONG_SUMS,
+    Between, Record, as_bytes, distance, space_of,
 )
 from reference.figures import one_of
 from reference.measure import ACCEPTED, B, H, KINDS, R, S, U
 from reference.sheet import (
-    BALLAST, DEDUCTED, EXEMPT, JUSTIFIED, LENGTHS_SHORT, NOT_JUSTIFIED, NOT_MARKED, NOT_PLAIN, PLAIN, PLACES,
-    STANDINGS, Sheet, Space,
+    BALLAST, DEDUCTED, EXEMPT, JUSTIFIED, LENGTHS_SHORT, NO_DECK, NO_VESSEL, NOT_JUSTIFIED, NOT_MARKED, NOT_PLAIN,
+    PLAIN, PLACES, STANDINGS, Sheet, Space,
 )
 
 
@@ -28,12 +28,22 @@ class Case(NamedTuple):
     name: str
     file: bytes
     made_for: tuple[int, int] | None = None
+    again: bool = False  # one much like it went before
 
 
 Cases = Iterator[Case]
 Section = Callable[[Random], Cases]
 IN_ORDER = (ACCEPTED, 0)
-BYTES_OF = {"id": 2, "within": 2, "kind": 1, "standing": 1, "zero": 2, "tonnage": 4, "length": 4}
+BYTES_OF = {
+    "id": 2, "within": 2, "kind": 1, "standing": 1, "zero": 2, "tonnage": 4, "length": 4, "deck": 2, "second_zero": 2
+}
+RECORD = FORMS[FORM_1].record
+OTHER = {FORM_1: FORM_2, FORM_2: FORM_1}
+
+
+def fields_in(form: int) -> tuple[str, ...]:
+    """The fields that a record has in a form."""
+    return Record._fields[:dayfile.fields_of(FORMS[form].record)]
 
 
 # Files of one sheet
@@ -43,30 +53,66 @@ def said(fields: dict[str, int]) -> str:
     return ", ".join(f"{field} {value}" for field, value in fields.items())
 
 
-def record(id: int, within: int, kind: int, standing: int, tonnage: int, length: int) -> Record:
-    """A record whose zero field is zero."""
-    return dayfile.record_of(Space(id, within, kind, standing, tonnage, length))
+def record(
+    id: int, within: int, kind: int, standing: int, tonnage: int, length: int, deck: int = NO_DECK
+) -> Record:
+    """A record whose zero fields are zero."""
+    return dayfile.record_of(Space(id, within, kind, standing, tonnage, length, deck=deck))
 
 
-def file_of(length: int, records: Sequence[Record], /, **wrong: int) -> bytes:
+def file_of(
+    length: int, records: Sequence[Record], /, form: int = FORM_1, vessel: int = NO_VESSEL, **wrong: int
+) -> bytes:
     """A sheet of these records, and the trailer that fits them, marked where it must be; but for what is said."""
     spaces = tuple(map(space_of, records))
-    trailer = dayfile.trailer_of(Sheet(True, length, spaces), int(s.ballast_over(spaces)))
+    trailer = dayfile.trailer_of(form, Sheet(True, length, spaces), int(s.ballast_over(spaces)))
     not_below_0 = trailer._replace(gross=max(trailer.gross, 0), net=max(trailer.net, 0))
-    return as_bytes(records, not_below_0._replace(**wrong))
+    return as_bytes(form, records, Between(vessel), not_below_0._replace(**wrong))
 
 
-# The paper's whole sheet.
+# The paper's whole sheet, one of three spaces and one of a single space. The three have a deck each, and their vessel a
+# number, where the form has fields for them.
 PAPERS_LENGTH = 4800
 PAPERS_RECORDS = (
     record(1, 0, U, PLAIN, 11_521, 4800), record(2, 0, S, PLAIN, 1_280, 1600), record(3, 1, R, BALLAST, 400, 1000),
     record(4, 2, R, DEDUCTED, 320, 800), record(5, 0, H, PLAIN, 100, 500),
 )
+THREES_LENGTH, THREES_VESSEL = 1200, 0x0a0b0c0d
+THREE = (
+    record(1, 0, U, PLAIN, 300, 1200, deck=1), record(2, 1, R, DEDUCTED, 50, 10, deck=99),
+    record(3, 0, H, PLAIN, 9, 9, deck=7),
+)
+PLAIN_THREE = tuple(own._replace(deck=NO_DECK) for own in THREE)
+ONES_LENGTH = 100
+VESSELS = (NO_VESSEL, 1, 255, 256, 2**16, 2**24, 2**31, 2**32 - 1)
 
 
 def of_the_paper(**wrong: int) -> bytes:
-    """The file of the paper's whole sheet, but for what is said of its trailer."""
+    """The file of the paper's whole sheet, but for what is said of its form, its vessel or its trailer."""
     return file_of(PAPERS_LENGTH, PAPERS_RECORDS, **wrong)
+
+
+def of_three(form: int, **wrong: int) -> bytes:
+    """The file of the three spaces, but for what is said of its trailer."""
+    return file_of(THREES_LENGTH, THREE, form=form, vessel=THREES_VESSEL, **wrong)
+
+
+def three_with(form: int, position: int, **fields: int) -> bytes:
+    """The file of the three spaces, but for these fields of the record at a position."""
+    records = [*THREE]
+    records[position - 1] = records[position - 1]._replace(**fields)
+    return file_of(THREES_LENGTH, records, form=form, vessel=THREES_VESSEL)
+
+
+def filled(count: int) -> list[Record]:
+    """A U of 100 and hatchways, so many in all."""
+    boxes = (record(id, 0, H, PLAIN, 1, 1) for id in range(2, count + 1))
+    return [record(1, 0, U, PLAIN, 5, ONES_LENGTH), *boxes]
+
+
+def of_one(form: int, deck: int = NO_DECK, **wrong: int) -> bytes:
+    """The file of a U alone, 44 bytes in form 1 and 52 in form 2, but for what is said of its vessel or its trailer."""
+    return file_of(ONES_LENGTH, [own._replace(deck=deck) for own in filled(1)], form=form, **wrong)
 
 
 # Sheets at random
@@ -132,16 +178,28 @@ def some_records(rng: Random, count: int, length: int) -> list[Record]:
     return records
 
 
-def a_file(rng: Random, count: int) -> bytes:
-    """A file of one sheet of that many spaces, now and then marked where it needn't be."""
+def decked(rng: Random, records: Iterable[Record]) -> list[Record]:
+    """The records with decks by chance, often the greatest."""
+    return [own._replace(deck=one_of(rng, (NO_DECK, 1, 99, 99, rng.randrange(100)))) for own in records]
+
+
+def a_file(rng: Random, count: int, form: int = FORM_1) -> bytes:
+    """A file of one sheet of that many spaces, now and then marked where it needn't be.
+
+    In form 2 it has decks, a vessel number, both or neither.
+    """
     length = one_of(rng, (100, 150_000, 1200, 4800, rng.randint(100, 150_000)))
+    records, vessel = some_records(rng, count, length), NO_VESSEL
     not_needed = {"justified": JUSTIFIED} if rng.randrange(3) == 0 else {}
-    return file_of(length, some_records(rng, count, length), **not_needed)
+    if form == FORM_2:
+        records = decked(rng, records) if rng.randrange(2) else records
+        vessel = one_of(rng, (NO_VESSEL, one_of(rng, VESSELS), rng.randrange(2**32)))
+    return file_of(length, records, form=form, vessel=vessel, **not_needed)
 
 
-def a_small_file(rng: Random) -> bytes:
+def a_small_file(rng: Random, form: int = FORM_1) -> bytes:
     """A file of one sheet of a few spaces."""
-    return a_file(rng, rng.randint(1, 7))
+    return a_file(rng, rng.randint(1, 7), form)
 
 
 # Sections of files in order
@@ -156,7 +214,7 @@ def sheets_in_order(rng: Random) -> Cases:
     for count in COUNTS:
         yield Case(f"a sheet of {count}", a_file(rng, count), IN_ORDER)
     for number in range(100):
-        yield Case(f"small sheet {number}", a_small_file(rng), IN_ORDER)
+        yield Case(f"small sheet {number}", a_small_file(rng), IN_ORDER, again=number > 0)
     for length in (100, 101, 149_999, 150_000):
         yield Case(f"a U of {length} alone", file_of(length, [record(1, 0, U, PLAIN, 0, length)]), IN_ORDER)
     greatest = [record(10_000 - id, 0, U, PLAIN, GREATEST_TONNAGE, 750) for id in range(1, PLACES + 1)]
@@ -177,10 +235,10 @@ def days(rng: Random) -> Cases:
     last = a_small_file(rng)
     yield Case("the same sheet twice", last + last, IN_ORDER)
     for earlier in wrong_files(rng):
-        if len(earlier.file) <= distance(6):
-            yield Case(f"in order behind: {earlier.name}", earlier.file + last, IN_ORDER)
+        if len(earlier.file) <= distance(FORM_1, 6):
+            yield Case(f"in order behind: {earlier.name}", earlier.file + last, IN_ORDER, again=True)
     for name, damaged, made_for in (
-        ("16", of_the_paper(zero=1), (WRONG_FILE, 0)), ("18", of_the_paper(net=0), (WRONG_SUMS, 0)),
+        ("16", of_the_paper(telling=1), (WRONG_FILE, 0)), ("18", of_the_paper(net=0), (WRONG_SUMS, 0)),
         ("13", of_the_paper(length=4801), (LENGTHS_SHORT, 0)),
         ("17", file_of(PAPERS_LENGTH, PAPERS_RECORDS[1:]), (WRONG_RECORD, 2)),
     ):
@@ -200,22 +258,31 @@ def bytes_ahead(rng: Random) -> Cases:
 
 # 16
 
-def filled(count: int) -> list[Record]:
-    """A U of 100 and hatchways, so many in all."""
-    return [record(1, 0, U, PLAIN, 5, 100), *(record(id, 0, H, PLAIN, 1, 1) for id in range(2, count + 1))]
+class Faults(NamedTuple):
+    """Values that a field can't have: those next to what it can, and others."""
+
+    edges: tuple[int, ...]
+    far: tuple[int, ...] = ()
+
+    def told_apart(self) -> Iterator[tuple[int, bool]]:
+        """Each value, and whether it is far."""
+        yield from product(self.edges, (False,))
+        yield from product(self.far, (True,))
 
 
-WHOLE = distance(len(PAPERS_RECORDS))  # the bytes of the paper's sheet
-WRONG_TRAILERS = {
-    "distance": (
-        0, 1, WHOLE - 28, WHOLE - 16, WHOLE - 1, WHOLE + 1, WHOLE + 16, WHOLE + 2**8, WHOLE + 2**16, WHOLE + 2**24,
-        2**32 - WHOLE, 2**32 - 1,
-    ),
-    "count": (0, 4, 6, 5 + 2**8, 200, 201, 2**16 - 1),
-    "zero": (1, 2, 128, 255),
-    "justified": (2, 3, 128, 255),
-    "length": (0, 1, 99, 150_001, PAPERS_LENGTH + 2**24, 2**32 - 1),
-}
+def faults_of_trailer(form: int, count: int) -> dict[str, Faults]:
+    """By the field: what a trailer alone must not say in a form, over so many records."""
+    size = distance(form, count)
+    return {
+        "distance": Faults((size - 1, size + 1), (
+            0, 1, 28, 32, size - 28, size - 16, size + 16, size + 2**8, size + 2**16, size + 2**24, 2**32 - size,
+            2**32 - 1,
+        )),
+        "count": Faults((count - 1, count + 1), (0, count + 2**8, 200, 201, 2**16 - 1)),
+        "telling": Faults((1, 3, 255, FORMS[OTHER[form]].telling), (128,)),
+        "justified": Faults((2,), (3, 128, 255)),
+        "length": Faults((99, 150_001), (0, 1, 2**24 + 1200, 2**32 - 1)),
+    }
 
 
 def wrong_files(rng: Random) -> Cases:
@@ -227,13 +294,13 @@ def wrong_files(rng: Random) -> Cases:
         yield Case(f"{size} zeros", bytes(size), refused)
     for missing in (1, 2, 15, 16, 17, 32, 79, 80):
         yield Case(f"a file without its first {missing} bytes", whole[missing:], refused)
-    for field, values in WRONG_TRAILERS.items():
-        for value in values:
+    for field, faults in faults_of_trailer(FORM_1, len(PAPERS_RECORDS)).items():
+        for value, far in faults.told_apart():
             wrong = of_the_paper(**{field: value})
-            yield Case(f"{field} {value}", wrong, refused)
+            yield Case(f"{field} {value}", wrong, refused, again=far)
             yield Case(f"{field} {value}, bytes ahead", rng.randbytes(300) + wrong, refused)
     for count in (6, 20, 200, 201, 202, 261, 2**16 - 1):
-        wrong = of_the_paper(count=count, distance=distance(count))
+        wrong = of_the_paper(count=count, distance=distance(FORM_1, count))
         yield Case(f"count and distance of {count}, the records not there", wrong, refused)
 
 
@@ -243,7 +310,7 @@ def counts_over_200(rng: Random) -> Cases:
         yield Case(f"{count} records", file_of(100, filled(count)), (WRONG_FILE, 0))
     yield Case("201 records, count 200", file_of(100, filled(201), count=200), (WRONG_FILE, 0))
     yield Case("201 records, the last 200 counted", file_of(
-        100, filled(201), count=200, distance=distance(200)
+        100, filled(201), count=200, distance=distance(FORM_1, 200)
     ), (LENGTHS_SHORT, 0))
     yield Case("200 records, 201 counted", file_of(100, filled(200), count=201), (WRONG_FILE, 0))
     most = (MOST_BYTES - TRAILER.size) // RECORD.size
@@ -296,10 +363,10 @@ def beside(kind: int, count: int) -> list[Record]:
     return [*BESIDE, *[LAST_UNDER_DECK] * (kind != U), *boxes][:count]
 
 
-def with_record(tried: Tried, position: int, count: int) -> bytes:
+def with_record(tried: Tried, position: int, count: int, form: int = FORM_1) -> bytes:
     """A sheet of that many, in which the record that is tried stands at the position."""
     others = beside(tried.kind, count - 1)
-    return file_of(FAULTS_LENGTH, [*others[:position - 1], tried.own, *others[position - 1:]])
+    return file_of(FAULTS_LENGTH, [*others[:position - 1], tried.own, *others[position - 1:]], form=form)
 
 
 def at_places(records: Iterable[Tried], number: int, *places: tuple[int, int]) -> Cases:
@@ -451,7 +518,8 @@ def ballasts(rng: Random) -> Cases:
                 file = file_of(FAULTS_LENGTH, a_thousand(ballast, *more), justified=justified)
                 over = ballast > share and not justified
                 made_for = (NOT_JUSTIFIED, 0) if over else IN_ORDER
-                yield Case(f"ballast {ballast} of {name}, mark {justified}", file, made_for)
+                again = not over and ballast not in (share, share + 1)
+                yield Case(f"ballast {ballast} of {name}, mark {justified}", file, made_for, again)
     nothing = [record(1, 0, U, PLAIN, 0, 1200), record(2, 1, R, BALLAST, 0, 10)]
     yield Case("ballast of nothing", file_of(FAULTS_LENGTH, nothing, justified=NOT_MARKED), IN_ORDER)
 
@@ -464,29 +532,44 @@ def wrong_sums(rng: Random) -> Cases:
     for byte in range(1, 8):
         wrong += [{"gross": gross + 256**byte}, {"net": net + 256**byte}]
     wrong += [{"gross": 2**64 - 1}, {"net": 2**64 - 1}, {"gross": gross + 255 * 256**7, "net": net + 255 * 256**7}]
-    for fields in wrong:
-        yield Case(said(fields), of_the_paper(**fields), (WRONG_SUMS, 0))
-        yield Case(f"{said(fields)}, marked", of_the_paper(justified=JUSTIFIED, **fields), (WRONG_SUMS, 0))
+    for number, fields in enumerate(wrong):
+        yield Case(said(fields), of_the_paper(**fields), (WRONG_SUMS, 0), again=number > 12)
+        yield Case(f"{said(fields)}, marked", of_the_paper(justified=JUSTIFIED, **fields), (WRONG_SUMS, 0), again=True)
     for number in range(20):
         field, by = rng.choice(("gross", "net")), one_of(rng, (-1, 1))
         file = a_small_file(rng)
         trailer = dayfile.last_trailer(file)
         trailer = trailer._replace(**{field: (getattr(trailer, field) + by) % 2**64})
-        yield Case(f"sums off by one {number}", file[:-TRAILER.size] + TRAILER.pack(*trailer), (WRONG_SUMS, 0))
+        off = file[:-TRAILER.size] + TRAILER.pack(*trailer)
+        yield Case(f"sums off by one {number}", off, (WRONG_SUMS, 0), again=number > 0)
 
 
 # Several at once
 
 ORDER = (WRONG_FILE, WRONG_RECORD, LENGTHS_SHORT, NOT_JUSTIFIED, WRONG_SUMS)
 
+FAULTS_OF_RECORD = {  # by the field, in a U, a room and a hatchway alike
+    "id": Faults((0, 10_000)), "within": Faults((9,), (256,)), "kind": Faults((0, 6)), "standing": Faults((4,), (255,)),
+    "zero": Faults((1, 256)), "tonnage": Faults((GREATEST_TONNAGE + 1,), (2**31,)), "length": Faults((0, 150_001)),
+    "deck": Faults((100,), (256, 2**16 - 1)), "second_zero": Faults((1, 256), (2**16 - 1,)),
+}
 
-def with_faults(rng: Random, numbers: Sequence[int]) -> tuple[bytes, int]:
+
+def a_wrong_trailer(rng: Random, form: int, count: int) -> dict[str, int]:
+    """What makes a trailer over so many records wrong, whatever it says of mark and tonnage length."""
+    return rng.choice((
+        {"telling": 1}, {"distance": distance(form, count) + 1}, {"count": count + 1},
+        {"count": count + 1, "distance": distance(form, count + 1)},
+    ))
+
+
+def with_faults(rng: Random, numbers: Sequence[int], form: int, vessel: int) -> tuple[bytes, int]:
     """A sheet with a fault for each of these numbers, and the position of a wrong record."""
     records, position = a_thousand(400, record(4, 0, H, PLAIN, 9, 9)), 0
     wrong = {"justified": JUSTIFIED}
     if WRONG_RECORD in numbers:
-        position = rng.randint(1, 4)
-        field, value = rng.choice((("zero", 256), ("kind", 6), ("standing", 4), ("id", 0), ("tonnage", 2**32 - 1)))
+        position, field = rng.randint(1, 4), rng.choice(fields_in(form))
+        value = rng.choice(FAULTS_OF_RECORD[field].edges)
         records[position - 1] = records[position - 1]._replace(**{field: value})
     if LENGTHS_SHORT in numbers:
         wrong["length"] = FAULTS_LENGTH + one_of(rng, (1, 100, 1200))
@@ -495,45 +578,49 @@ def with_faults(rng: Random, numbers: Sequence[int]) -> tuple[bytes, int]:
     if WRONG_SUMS in numbers:
         wrong[rng.choice(("gross", "net"))] = one_of(rng, (0, 12_345, 2**64 - 1))
     if WRONG_FILE in numbers:
-        of_four, of_five = distance(4), distance(5)
-        wrong |= rng.choice(({"zero": 1}, {"distance": of_four + 1}, {"count": 5}, {"count": 5, "distance": of_five}))
-    return file_of(FAULTS_LENGTH, records, **wrong), position
+        wrong |= a_wrong_trailer(rng, form, len(records))
+    return file_of(FAULTS_LENGTH, records, form=form, vessel=vessel, **wrong), position
 
 
 def several_at_once(rng: Random) -> Cases:
-    """Every set of 16, 17, 13, 14 and 18 in one file: the first of them in that order is given."""
-    for number in range(4):
-        for size in range(len(ORDER) + 1):
-            for numbers in combinations(ORDER, size):
-                file, position = with_faults(rng, numbers)
-                first = numbers[0] if numbers else ACCEPTED
-                made_for = (first, position if first == WRONG_RECORD else 0)
-                yield Case(f"{numbers} at once, {number}", file, made_for)
+    """Every set of 16, 17, 13, 14 and 18 in one file of each form: the first of them in that order is given."""
+    for form, number, size in product(FORMS, range(3), range(len(ORDER) + 1)):
+        for numbers in combinations(ORDER, size):
+            file, position = with_faults(rng, numbers, form, one_of(rng, VESSELS))
+            first = numbers[0] if numbers else ACCEPTED
+            made_for = (first, position if first == WRONG_RECORD else 0)
+            yield Case(f"{numbers} at once in form {form}, {number}", file, made_for, again=number > 0)
 
 
 # Sections of chance
 
+def taken_out(rng: Random, file: bytes) -> bytes:
+    """A file without a byte, a vessel number or a record of either form somewhere."""
+    place, size = rng.randrange(len(file)), one_of(rng, (1, 4, 16, 20))
+    return file[:place] + file[place + size:]
+
+
+def put_in(rng: Random, file: bytes) -> bytes:
+    """A file with so many bytes more somewhere."""
+    place = rng.randrange(len(file))
+    return file[:place] + rng.randbytes(one_of(rng, (1, 4, 16, 20))) + file[place:]
+
+
 def cuts(rng: Random) -> Cases:
-    """A file without some of its first or of its last bytes; a byte more at its end."""
-    whole = of_the_paper()
-    for size in range(len(whole)):
-        yield Case(f"the first {size} bytes of the paper's file", whole[:size])
-    for byte in (*range(16), *range(16, 256, 24), 255):
-        yield Case(f"byte {byte} behind the paper's file", whole + bytes([byte]))
-    for number in range(60):
-        file = a_small_file(rng)
-        yield Case(f"cut file {number}", file[:rng.randrange(len(file))])
-        yield Case(f"file cut ahead {number}", file[rng.randint(1, len(file)):])
-        yield Case(f"file with a byte behind {number}", file + rng.randbytes(1))
-    for number in range(20):
-        first, second = a_small_file(rng), a_small_file(rng)
-        yield Case(f"a record taken out {number}", file_without(rng, first + second))
-
-
-def file_without(rng: Random, file: bytes) -> bytes:
-    """A file without 16 bytes somewhere."""
-    place = rng.randrange(len(file) // RECORD.size) * RECORD.size
-    return file[:place] + file[place + RECORD.size:]
+    """A file of each form without some of its first, of its last or of other bytes; with bytes more."""
+    for form in FORMS:
+        whole = of_the_paper(form=form, vessel=THREES_VESSEL)
+        for size in range(len(whole)):
+            yield Case(f"the first {size} bytes of the paper's file in form {form}", whole[:size])
+        for byte in (*range(16), *range(16, 256, 24), 255):
+            yield Case(f"byte {byte} behind the paper's file in form {form}", whole + bytes([byte]))
+        for number in range(50):
+            file, of_form = a_small_file(rng, form), f"in form {form}, {number}"
+            yield Case(f"cut file {of_form}", file[:rng.randrange(len(file))])
+            yield Case(f"file cut ahead {of_form}", file[rng.randint(1, len(file)):])
+            yield Case(f"file with a byte behind {of_form}", file + rng.randbytes(1))
+            yield Case(f"bytes taken out {of_form}", taken_out(rng, a_small_file(rng) + file))
+            yield Case(f"bytes put in {of_form}", put_in(rng, file))
 
 
 def flipped(file: bytes, bit: int) -> bytes:
@@ -542,13 +629,14 @@ def flipped(file: bytes, bit: int) -> bytes:
 
 
 def flips(rng: Random) -> Cases:
-    """Every single bit of the paper's file the other way, and some of others."""
-    whole = of_the_paper()
-    for bit in range(8 * len(whole)):
-        yield Case(f"the paper's file, bit {bit} the other way", flipped(whole, bit))
-    for number in range(300):
-        file = a_small_file(rng)
-        yield Case(f"another file with a bit the other way {number}", flipped(file, rng.randrange(8 * len(file))))
+    """Every single bit of a file the other way, of the paper's in form 1, of the three's in form 2; some of others."""
+    for form, whole, others in ((FORM_1, of_the_paper(), 300), (FORM_2, of_three(FORM_2), 100)):
+        for bit in range(8 * len(whole)):
+            yield Case(f"bit {bit} of a file of form {form} the other way", flipped(whole, bit))
+        for number in range(others):
+            file = a_small_file(rng, form)
+            flip = flipped(file, rng.randrange(8 * len(file)))
+            yield Case(f"another file of form {form} with a bit the other way {number}", flip)
 
 
 def an_edge(rng: Random, records: Sequence[Record], field: str) -> int:
@@ -556,7 +644,7 @@ def an_edge(rng: Random, records: Sequence[Record], field: str) -> int:
     edges = {
         "id": (0, 1, 9_999, 10_000), "within": (0, 1, 9_999), "kind": range(7), "standing": range(5),
         "zero": (0, 1, 256), "tonnage": (0, 1, GREATEST_TONNAGE, GREATEST_TONNAGE + 1),
-        "length": (0, 1, 99, 100, 150_000, 150_001),
+        "length": (0, 1, 99, 100, 150_000, 150_001), "deck": (0, 1, 99, 100, 256), "second_zero": (0, 0, 0, 1, 256),
     }
     known = [getattr(one, "id" if field == "within" else field) for one in records]
     any_number = rng.randrange(256**BYTES_OF[field])
@@ -565,13 +653,15 @@ def an_edge(rng: Random, records: Sequence[Record], field: str) -> int:
 
 def touched(rng: Random) -> Cases:
     """Sheets in order but for a field or two of a record, the trailer fitting the records as they are."""
-    for number in range(900):
-        length = one_of(rng, (100, 1200, 150_000))
-        records = some_records(rng, rng.randint(1, 9), length)
-        for _ in range(rng.randint(1, 2)):
-            place, field = rng.randrange(len(records)), rng.choice(list(BYTES_OF))
-            records[place] = records[place]._replace(**{field: an_edge(rng, records, field)})
-        yield Case(f"touched sheet {number}", file_of(length, records))
+    for form, sheets in ((FORM_1, 900), (FORM_2, 300)):
+        for number in range(sheets):
+            length = one_of(rng, (100, 1200, 150_000))
+            records = decked(rng, some_records(rng, rng.randint(1, 9), length))
+            for _ in range(rng.randint(1, 2)):
+                place, field = rng.randrange(len(records)), rng.choice(fields_in(form))
+                records[place] = records[place]._replace(**{field: an_edge(rng, records, field)})
+            file = file_of(length, records, form=form, vessel=one_of(rng, VESSELS))
+            yield Case(f"touched sheet of form {form}, {number}", file)
 
 
 def moved(rng: Random) -> Cases:
@@ -587,19 +677,210 @@ def moved(rng: Random) -> Cases:
 
 
 def noise(rng: Random) -> Cases:
-    """Bytes at random, alone or with a trailer that fits them; records at random."""
+    """Bytes at random; records at random or of edges, with a trailer that fits them, mostly."""
     for size in (*range(0, 64, 3), 28, 44, 100, 500, 5000):
         yield Case(f"{size} bytes at random", rng.randbytes(size))
-    for number in range(150):
-        count = rng.randrange(5)
-        records = [Record(*fields) for fields in RECORD.iter_unpack(rng.randbytes(RECORD.size * count))]
-        file = file_of(rng.randint(90, 150_010), records, justified=rng.randrange(3), zero=rng.randrange(5) // 4)
-        yield Case(f"records of noise {number}", file)
-    for number in range(250):
-        records = [
-            Record(*(an_edge(rng, PAPERS_RECORDS, field) for field in BYTES_OF)) for _ in range(rng.randint(1, 5))
-        ]
-        yield Case(f"records of edges {number}", file_of(rng.choice((100, 4800)), records))
+    for form, number in product(FORMS, range(100)):
+        layout = FORMS[form].record
+        records = [Record(*fields) for fields in layout.iter_unpack(rng.randbytes(layout.size * rng.randrange(5)))]
+        trailer = {"justified": rng.randrange(3)} | one_of(rng, ({}, {}, {}, {"telling": 1}))
+        file = file_of(rng.randint(90, 150_010), records, form=form, vessel=rng.randrange(2**32), **trailer)
+        yield Case(f"records of noise in form {form}, {number}", file)
+    for form, number in product(FORMS, range(170)):
+        edges = ([an_edge(rng, PAPERS_RECORDS, field) for field in fields_in(form)] for _ in range(rng.randint(1, 5)))
+        file = file_of(rng.choice((100, 4800)), [Record(*fields) for fields in edges], form=form)
+        yield Case(f"records of edges in form {form}, {number}", file)
+
+
+# The two forms
+
+def forms_in_order(rng: Random) -> Cases:
+    """Both forms in order: with decks and vessel numbers at the ends of their ranges, with none, and with both."""
+    for form in FORMS:
+        yield Case(f"three in form {form}", of_three(form), IN_ORDER)
+        yield Case(f"three in form {form}, marked", of_three(form, justified=JUSTIFIED), IN_ORDER)
+    yield Case("the paper's whole sheet in form 2", of_the_paper(form=FORM_2), IN_ORDER)
+    for vessel in VESSELS:
+        file = file_of(THREES_LENGTH, PLAIN_THREE, form=FORM_2, vessel=vessel)
+        yield Case(f"vessel {vessel} and no deck", file, IN_ORDER)
+    for position in range(1, len(THREE) + 1):
+        for deck in (NO_DECK, 1, 98, 99):
+            yield Case(f"deck {deck} at {position}", three_with(FORM_2, position, deck=deck), IN_ORDER)
+    for kind in KINDS:
+        file = with_record(changed(kind, deck=99), 14, 14, FORM_2)
+        yield Case(f"{LETTERS[kind]} with deck 99", file, IN_ORDER)
+    for number in range(40):
+        yield Case(f"small sheet of form 2 {number}", a_small_file(rng, FORM_2), IN_ORDER, again=number > 0)
+
+
+def telling_bytes(rng: Random) -> Cases:
+    """16: 'distance, zero byte ... wrong': any telling byte with the distance of the other form."""
+    refused = (WRONG_FILE, 0)
+    for form in FORMS:
+        for telling in (0, 1, 2, 3, 255):
+            name = f"telling byte {telling} and the other distance in form {form}"
+            wrong = of_three(form, telling=telling, distance=distance(OTHER[form], len(THREE)))
+            if telling == FORMS[OTHER[form]].telling:  # read as the other form, if the file is long enough for that
+                yield from (Case(f"{name}, {ahead} bytes ahead", bytes(ahead) + wrong) for ahead in (0, 16, 40))
+            else:
+                yield Case(name, wrong, refused)
+                yield Case(f"{name}, 40 bytes ahead", bytes(40) + wrong, refused, again=True)
+        for count in (0, 1, 2, 4, 5):
+            wrong = of_three(form, count=count, distance=distance(OTHER[form], count))
+            name = f"count {count} and its distance in the other form, form {form}"
+            yield Case(name, wrong, refused, again=count > 2)
+
+
+def sizes_of_forms(rng: Random) -> Cases:
+    """16: 'file shorter than 28 bytes or than its distance', in each form by one byte and by more; and a byte over."""
+    refused = (WRONG_FILE, 0)
+    for form in FORMS:
+        whole = of_three(form)
+        for size in (27, 28, 29, 31, 32, 33, len(whole) - 20, len(whole) - 16, len(whole) - 4, len(whole) - 1):
+            yield Case(f"the last {size} bytes in form {form}", whole[-size:], refused)
+        for ahead in (1, 4, 16, 20, 24):
+            yield Case(f"{ahead} bytes ahead of form {form}", rng.randbytes(ahead) + whole, IN_ORDER)
+        yield Case(f"form {form} without its last byte", whole[:-1], refused)
+        for missing in (4, 28, 32):
+            yield Case(f"form {form} without its last {missing} bytes", whole[:-missing])
+        for byte in (0, 1, 2, 255):
+            yield Case(f"byte {byte} behind form {form}", whole + bytes([byte]), refused, again=byte > 0)
+    of_form_2 = of_three(FORM_2)
+    without = of_form_2[:-TRAILER.size - 4] + of_form_2[-TRAILER.size:]
+    yield Case("form 2 without its vessel number", without, refused)
+    of_form_1 = of_three(FORM_1)
+    more = of_form_1[:-TRAILER.size] + bytes(4) + of_form_1[-TRAILER.size:]
+    yield Case("form 1 with a vessel number", more)
+
+
+def counts_of_forms(rng: Random) -> Cases:
+    """No record, one, 200 and 201, in each form: 'count over 200' is 16, and without a U 13 is left to say."""
+    for form in FORMS:
+        for justified in (NOT_MARKED, JUSTIFIED):
+            none = file_of(100, [], form=form, vessel=7, justified=justified)
+            yield Case(f"no record in form {form}, mark {justified}", none, (LENGTHS_SHORT, 0))
+            yield Case(f"no record in form {form}, mark {justified}, a byte short", none[1:], (WRONG_FILE, 0))
+        yield Case(f"one record in form {form}", of_one(form, vessel=7), IN_ORDER)
+        for count in (199, 200):
+            file = file_of(100, decked(rng, filled(count)), form=form, vessel=7)
+            yield Case(f"{count} records in form {form}", file, IN_ORDER)
+        for count in (201, 202):
+            yield Case(f"{count} records in form {form}", file_of(100, filled(count), form=form), (WRONG_FILE, 0))
+        for count in (200, 201):
+            wrong = of_three(form, count=count, distance=distance(form, count))
+            yield Case(f"{count} records in form {form}, not there", wrong, (WRONG_FILE, 0))
+
+
+def fields_of_forms(rng: Random) -> Cases:
+    """Every field of both forms damaged alone, those of a record in the first, a middle and the last."""
+    for form in FORMS:
+        for field, position in product(fields_in(form), range(1, len(THREE) + 1)):
+            for value, far in FAULTS_OF_RECORD[field].told_apart():
+                file = three_with(form, position, **{field: value})
+                yield Case(f"{field} {value} at {position} in form {form}", file, (WRONG_RECORD, position), again=far)
+        yield Case(f"U of 99 in form {form}", three_with(form, 1, length=99), (WRONG_RECORD, 1))
+        for length, made_for in ((99, (WRONG_RECORD, 3)), (100, IN_ORDER)):
+            yield Case(f"B of {length} in form {form}", three_with(form, 3, kind=B, length=length), made_for)
+        for field, faults in faults_of_trailer(form, len(THREE)).items():
+            for value, far in faults.told_apart():
+                file = of_three(form, **{field: value})
+                yield Case(f"{field} {value} in form {form}", file, (WRONG_FILE, 0), again=far)
+        trailer = dayfile.last_trailer(of_three(form))
+        for field, by in product(("gross", "net"), (1, -1, 2**32, 2**63)):
+            wrong = {field: getattr(trailer, field) + by}
+            yield Case(f"{field} off by {by} in form {form}", of_three(form, **wrong), (WRONG_SUMS, 0), again=by != 1)
+        yield Case(f"tonnage length 1199 in form {form}", of_three(form, length=1199), (WRONG_RECORD, 1))
+        yield Case(f"tonnage length 1201 in form {form}", of_three(form, length=1201), (LENGTHS_SHORT, 0))
+
+
+REFUSED_BY_ENTRY = {  # by the number that entry would give, records behind a U of 100 with a tonnage of 5
+    4: (record(1, 0, H, PLAIN, 5, 9, deck=9),), 5: (record(2, 9, R, PLAIN, 5, 9, deck=9),),
+    6: (record(2, 0, H, PLAIN, 5, 9), record(3, 2, R, PLAIN, 5, 9, deck=9)),
+    7: tuple(record(id, id - 1, R, PLAIN, 5, 9, deck=9) for id in range(2, 10)),
+    8: (record(2, 1, R, EXEMPT, 5, 9), record(3, 2, R, DEDUCTED, 5, 9, deck=9)),
+    9: (record(2, 1, R, PLAIN, 3, 9), record(3, 1, R, PLAIN, 3, 9, deck=9)),
+}
+
+
+def refused_by_entry(rng: Random) -> Cases:
+    """17: 'one that entry would refuse', with each number, in each form; without that record the sheet is in order."""
+    for form, (number, records) in product(FORMS, REFUSED_BY_ENTRY.items()):
+        wrong = [*filled(1), *records]
+        file = file_of(100, wrong, form=form, vessel=7)
+        yield Case(f"{number} by entry in form {form}", file, (WRONG_RECORD, len(wrong)))
+        file = file_of(100, wrong[:-1], form=form, vessel=7)
+        yield Case(f"{number} by entry taken out in form {form}", file, IN_ORDER, again=True)
+
+
+def decks_in_files(rng: Random) -> Cases:
+    """17: 'for such a deck in a file', beside other causes in the same record and in others; at the 200th too."""
+    for deck in (100, 101, 127, 128, 255, 257, 355, 2**15, 2**16 - 256):
+        yield Case(f"deck {deck}", three_with(FORM_2, 2, deck=deck), (WRONG_RECORD, 2))
+    for field, value in (("id", 1), ("kind", 0), ("zero", 1), ("second_zero", 1), ("standing", 4), ("within", 3)):
+        file = three_with(FORM_2, 2, deck=100, **{field: value})
+        yield Case(f"deck 100 with {field} {value}", file, (WRONG_RECORD, 2))
+    for first, second in combinations(range(3), 2):
+        for one, other in product(({"deck": 100}, {"second_zero": 1}, {"id": 0}, {"standing": 4}), repeat=2):
+            records = [*THREE]
+            for place, fields in ((first, one), (second, other)):
+                records[place] = records[place]._replace(**fields)
+            file = file_of(THREES_LENGTH, records, form=FORM_2, vessel=THREES_VESSEL)
+            name = f"{said(one)} at {first + 1} and {said(other)} at {second + 1}"
+            yield Case(name, file, (WRONG_RECORD, first + 1), again=True)
+    for field, value in (("deck", 100), ("second_zero", 256)):
+        records = filled(PLACES)
+        records[-1] = records[-1]._replace(**{field: value})
+        yield Case(f"{field} {value} at the 200th", file_of(100, records, form=FORM_2), (WRONG_RECORD, PLACES))
+    records = filled(PLACES)
+    records[-1] = records[-1]._replace(deck=99)
+    yield Case("deck 99 at the 200th", file_of(100, records, form=FORM_2), IN_ORDER)
+
+
+def refused_alone(form: int) -> Iterator[tuple[bytes, tuple[int, int]]]:
+    """A sheet of a U alone, refused with each of reading's numbers, 16 also by the other form's telling byte.
+
+    For 14 it has a room of ballast.
+    """
+    [own] = filled(1)
+    yield from ((of_one(form, telling=one), (WRONG_FILE, 0)) for one in (1, FORMS[OTHER[form]].telling))
+    yield file_of(ONES_LENGTH, [own._replace(zero=1)], form=form), (WRONG_RECORD, 1)
+    yield of_one(form, length=ONES_LENGTH + 1), (LENGTHS_SHORT, 0)
+    ballast = record(2, own.id, R, BALLAST, own.tonnage, 9)
+    yield file_of(ONES_LENGTH, [own, ballast], form=form, justified=NOT_MARKED), (NOT_JUSTIFIED, 0)
+    yield of_one(form, net=0), (WRONG_SUMS, 0)
+
+
+def days_of_forms(rng: Random) -> Cases:
+    """Sheets of both forms one behind another: only the last is judged, in its own form."""
+    for forms in product(FORMS, repeat=2):
+        yield Case(f"forms {forms}", b"".join(of_one(form, deck=9, vessel=7) for form in forms), IN_ORDER)
+    for forms in product(FORMS, repeat=3):
+        yield Case(f"forms {forms}", b"".join(a_small_file(rng, form) for form in forms), IN_ORDER)
+    for form in FORMS:
+        other = of_one(OTHER[form], deck=9, vessel=7)
+        yield Case(f"form {form} behind a damaged one", other[:-1] + of_one(form, vessel=8), IN_ORDER)
+        for number, (wrong, made_for) in enumerate(refused_alone(form)):
+            name = f"{made_for[0]} in form {form} behind the other form {number}"
+            yield Case(name, other + wrong, made_for)
+
+
+def up(rng: Random, file: bytes) -> bytes:
+    """The last sheet of a file of form 1 in form 2, wrong records as they are, with decks and a vessel by chance."""
+    trailer, records = dayfile.last_trailer(file), decked(rng, dayfile.last_records(file))
+    of_form_2 = trailer._replace(distance=distance(FORM_2, trailer.count), telling=FORMS[FORM_2].telling)
+    return as_bytes(FORM_2, records, Between(one_of(rng, VESSELS)), of_form_2)
+
+
+AGAIN = (wrong_records, records_let_in, enclosed_later, wrong_twice, short_lengths, ballasts, wrong_sums, moved)
+
+
+def the_same_in_form_2(rng: Random) -> Cases:
+    """Sheets of sections of form 1 once more, judged alike; of the larger ones and of those that chance makes some."""
+    for section in AGAIN:
+        for name, file, made_for, _ in section(rng):
+            small = made_for is not None and len(file) <= distance(FORM_1, 5)
+            if len(file) <= distance(FORM_1, 16) and (small or rng.randrange(3) == 0):
+                yield Case(f"in form 2: {name}", up(rng, file), made_for, again=True)
 
 
 # All of them
@@ -607,7 +888,8 @@ def noise(rng: Random) -> Cases:
 SECTIONS: tuple[Section, ...] = (
     sheets_in_order, days, bytes_ahead, wrong_files, counts_over_200, tonnage_lengths, wrong_records, records_let_in,
     wrong_records_of_200, enclosed_later, wrong_twice, short_lengths, ballasts, wrong_sums, several_at_once, cuts,
-    flips, touched, moved, noise,
+    flips, touched, moved, noise, forms_in_order, telling_bytes, sizes_of_forms, counts_of_forms, fields_of_forms,
+    refused_by_entry, decks_in_files, days_of_forms, the_same_in_form_2,
 )
 SEED = 69_117
 

@@ -14,21 +14,25 @@ from random import Random
 from typing import Callable, Iterable, Iterator, Sequence
 
 from reference import command_line, dayfile, figures, files, measure as m, sheet as s
+from reference.dayfile import FORM_1, FORM_2, FORMS
 from reference.figures import one_of, some, word
 from reference.measure import B, H, R, S, U
 from reference.sheet import BALLAST, DEDUCTED, EXEMPT, INNER, NOT_SAID, PLAIN, POINTED, UPRIGHT, Sheet
-from reference.survey import GREATEST_SIZE, MOST_DIGITS, MOST_NUMBERS, Session, in_hex
+from reference.survey import GREATEST_SIZE, GREATEST_VESSEL, MOST_DIGITS, MOST_NUMBERS, Session, in_hex
 
 Lines = Iterator[str]
 Section = Callable[[Random, Session], Lines]
-Ends = tuple[int, ...]  # what an entry says of its fore and its aft end; none where they are left out
+Ends = tuple[int, ...]  # words behind an entry's measures: two on its ends; none, or others, where a section tries that
 
 LOOK = ("counts", "spaces")
 LOOK_AND_REPORT = ("counts", "spaces", "report 0", "report 1")
 BEYOND_16 = (65_535, 65_536, 65_537, 2**64 - 1)  # ids above their type, one that would wrap to 1
 BEYOND_8 = (4, 255, 256, 257, 261, 2**16, 2**64 - 1)  # codes above their range or type, some that would wrap into it
 BEYOND_ENDS = (4, 255, 256, 257, 258, 259, 2**16 + 2, 2**64 - 1)  # ends likewise
+BEYOND_DECKS = (100, 101, 255, 256, 256 + 99, 2**16 + 1, 2**64 - 1)  # decks likewise
+BEYOND_FORMS = (0, 3, 4, 255, 256, 257, 258, 2**16 + 2, 2**32 + 1, 2**64 - 1)  # forms likewise
 BEYOND_32 = (2**32 - 1, 2**32, 2**32 + 600, 2**64 - 1)  # measures likewise
+FAR = (2**63 - 1, 2**63, 2**64 - 1)  # places far behind the end of a buffer
 
 
 # Lines
@@ -38,14 +42,24 @@ def call(name: str, *arguments: int | Sequence[int]) -> str:
     return " ".join([name, *map(word, arguments)])
 
 
+def unless_left_out(argument: int | None) -> tuple[int, ...]:
+    """What a line has at its end of a word that may be left out."""
+    return () if argument is None else (argument,)
+
+
+def opening(length: int, vessel: int | None = None) -> str:
+    """The line of an opening."""
+    return call("open", length, *unless_left_out(vessel))
+
+
 def enter(
     id: int, within: int, kind: int, standing: int, length: int, heights: Sequence[int], breadths: Sequence[int],
-    ends: Ends | None = None,
+    ends: Ends | None = None, deck: int | None = None,
 ) -> str:
     """The line of an entry; where ends aren't given, a U is upright at both, and of another they are left out."""
     if ends is None:
         ends = (UPRIGHT, UPRIGHT) if kind == U else ()
-    return call("enter", id, within, kind, standing, length, heights, breadths, *ends)
+    return call("enter", id, within, kind, standing, length, heights, breadths, *ends, *unless_left_out(deck))
 
 
 def box_measures(tonnage: int) -> tuple[int, list[int], list[int]]:
@@ -53,29 +67,31 @@ def box_measures(tonnage: int) -> tuple[int, list[int], list[int]]:
     return (tonnage, [1000], [1000]) if tonnage else (1, [1], [1])
 
 
-def room(id: int, within: int, tonnage: int = 0, standing: int = PLAIN) -> str:
+def room(id: int, within: int, tonnage: int = 0, standing: int = PLAIN, deck: int | None = None) -> str:
     """The entry of a room of this tonnage."""
-    return enter(id, within, R, standing, *box_measures(tonnage))
+    return enter(id, within, R, standing, *box_measures(tonnage), deck=deck)
 
 
-def hatchway(id: int, tonnage: int) -> str:
+def hatchway(id: int, tonnage: int, deck: int | None = None) -> str:
     """The entry of a hatchway of this tonnage."""
-    return enter(id, 0, H, PLAIN, *box_measures(tonnage))
+    return enter(id, 0, H, PLAIN, *box_measures(tonnage), deck=deck)
 
 
 def divided(
-    id: int, kind: int, tonnage_length: int, length: int, height: int, breadth: int, standing: int = PLAIN
+    id: int, kind: int, tonnage_length: int, length: int, height: int, breadth: int, standing: int = PLAIN,
+    deck: int | None = None,
 ) -> str:
     """The entry of a U, B or S with one height and one breadth throughout."""
     space = figures.uniform(kind, tonnage_length, length, height, breadth)
-    return enter(id, 0, kind, standing, length, space.heights, space.breadths)
+    return enter(id, 0, kind, standing, length, space.heights, space.breadths, deck=deck)
 
 
 def tank(
-    id: int, within: int, standing: int, length: int, fore: int, depths: Sequence[int], breadths: Sequence[int]
+    id: int, within: int, standing: int, length: int, fore: int, depths: Sequence[int], breadths: Sequence[int],
+    deck: int | None = None,
 ) -> str:
     """The line of a tank."""
-    return call("tank", id, within, standing, length, fore, depths, breadths)
+    return call("tank", id, within, standing, length, fore, depths, breadths, *unless_left_out(deck))
 
 
 def zones(tonnage_length: int, under_deck_length: int, length: int, fore: int) -> str:
@@ -93,9 +109,14 @@ def withdraw(id: int) -> str:
     return call("withdraw", id)
 
 
-def write(justified: int, at: int, size: int) -> str:
+def write(justified: int, at: int, size: int, form: int | None = None) -> str:
     """The line of a write."""
-    return call("write", justified, at, size)
+    return call("write", justified, at, size, *unless_left_out(form))
+
+
+def writef(justified: int, at: int, size: int, fill: int, form: int | None = None) -> str:
+    """The line of a write into a buffer with a filling."""
+    return call("writef", justified, at, size, fill, *unless_left_out(form))
 
 
 def read(file: bytes) -> str:
@@ -106,6 +127,11 @@ def read(file: bytes) -> str:
 def before(start: int, file: bytes) -> str:
     """The line of a read of the sheet before a start."""
     return f"before {start} {in_hex(file)}"
+
+
+def move(file: bytes, form: int, at: int, size: int, fill: int = 0) -> str:
+    """The line of a move."""
+    return f"move {in_hex(file)} {form} {at} {size} {fill}"
 
 
 # Sheets that sections begin with
@@ -157,7 +183,7 @@ def read_and_entered_anew() -> Lines:
     """The thousand read from its file, so that its U have no m, and U 1 entered anew: it has m 4."""
     session = Session()
     session.answers("".join(line + "\n" for line in a_thousand()))
-    yield read(dayfile.bytes_of(session.sheet, s.NOT_MARKED))
+    yield read(dayfile.bytes_of(FORM_1, session.sheet, s.NOT_MARKED))
     yield from (withdraw(1), divided(1, U, 1200, 600, 1200, 500))
 
 
@@ -181,6 +207,10 @@ def not_open(rng: Random, session: Session) -> Lines:
     yield from (tank(2, 1, PLAIN, 300, 0, [9] * 3, [9] * 15), tank(0, 0, 4, 0, 2**32, [20_001], []))
     yield from (zones(4800, 4800, 4800, 0), zones(4800, 4800, 4800, 1), zones(99, 4800, 4800, 0))
     yield from LOOK
+    yield "# A move takes no sheet"
+    alone = files.of_one(FORM_1)
+    yield from (move(alone, FORM_2, 0, 52), move(alone, FORM_1, 0, 43), move(alone, 0, 0, 0), move(b"", FORM_1, 0, 0))
+    yield from (*LOOK, *(write(0, 0, 9, form) for form in (FORM_1, FORM_2, 3)), *LOOK)
 
 
 def openings(rng: Random, session: Session) -> Lines:
@@ -335,7 +365,7 @@ def ranges(rng: Random, session: Session) -> Lines:
             yield from tried(session, enter(7, within, kind, 0, length, heights, breadths))
     yield "# Zeros in front, and lists as long as they may be"
     yield from ("open 0001200", "enter 007 0 04 00 0010 0001000 01000", "report 00", "withdraw " + "0" * 5000 + "7")
-    for kind in m.KINDS:
+    for kind in (U, H):
         yield enter(7, 7, kind, 0, 600, [9] * MOST_NUMBERS, [9])
         yield enter(7, 7, kind, 0, 600, [9], [9] * MOST_NUMBERS)
     yield from LOOK
@@ -542,7 +572,7 @@ def writes(rng: Random, session: Session) -> Lines:
     yield "# Writing"
     for condition in conditions():
         yield from condition
-        size = dayfile.distance(len(session.sheet.spaces))
+        size = dayfile.distance(FORM_1, len(session.sheet.spaces))
         for justified in (0, 1, 2, 255, 257, 2**64 - 1):
             yield from (write(justified, 0, size), write(justified, 2, size + 1), write(justified, 1, 0))
         yield from LOOK_AND_REPORT
@@ -555,71 +585,83 @@ def places_in_a_buffer(rng: Random, session: Session) -> Lines:
     """Room that is just enough and a byte less, at places from the beginning to far behind the end; every filling."""
     yield "# Places in a buffer"
     yield from a_thousand()
-    size = dayfile.distance(len(session.sheet.spaces))
+    size = dayfile.distance(FORM_1, len(session.sheet.spaces))
     for at in (0, 1, 2, 3, 16, 27, 28, 44, 100):
         yield from (write(0, at, at + size + more) for more in (-1, 0, 1, 50))
         yield from (write(1, at, at + 1), write(1, at, at), write(1, at + 1, at))
-    far = (2**63 - 1, 2**63, 2**64 - 1)
-    for at in (size - 1, size, size + 1, 2**16 - 1, 2**16, 2**32 - size, 2**32 - 1, 2**32, 2**32 + 1, *far):
+    for at in (size - 1, size, size + 1, 2**16 - 1, 2**16, 2**32 - size, 2**32 - 1, 2**32, 2**32 + 1, *FAR):
         yield from (write(0, at, buffer) for buffer in (0, size, 2 * size))
     for short in range(-2, 2):  # the end of what is written would be about 2^64
         yield from (write(0, 2**64 - size + short, buffer) for buffer in (0, 1, size))
     yield "# Fillings"
     for fill in (0, 1, 127, 128, 254, 255):
-        yield from (call("writef", 0, 0, size, fill), call("writef", 0, 5, size + 9, fill))
-        yield from (call("writef", 1, 6, size + 5, fill), call("writef", 2, 5, 3, fill), call("writef", 0, 0, 0, fill))
-    yield from (call("writef", justified, 2, 90, 85) for justified in BEYOND_8)
-    yield from (call("writef", 0, at, 80, 85) for at in (4, 5, 80, 81, 2**32 + 4, *far))
+        yield from (writef(0, 0, size, fill), writef(0, 5, size + 9, fill))
+        yield from (writef(1, 6, size + 5, fill), writef(2, 5, 3, fill), writef(0, 0, 0, fill))
+    yield from (writef(justified, 2, 90, 85) for justified in BEYOND_8)
+    yield from (writef(0, at, 80, 85) for at in (4, 5, 80, 81, 2**32 + 4, *FAR))
     for condition in conditions():
-        yield from (*condition, call("writef", 0, 1, 110, 170), call("writef", 1, 1, 110, 170))
-        yield call("writef", 0, 100, 110, 170)
+        yield from (*condition, writef(0, 1, 110, 170), writef(1, 1, 110, 170))
+        yield writef(0, 100, 110, 170)
     yield "# The largest buffer"
-    yield call("writef", 1, GREATEST_SIZE - size, GREATEST_SIZE, 165)
+    yield writef(1, GREATEST_SIZE - size, GREATEST_SIZE, 165)
 
 
 def read_and_looked_at(session: Session, file: bytes) -> Lines:
     """A read and what it leaves: no open changes, and the bytes themselves where it is written again."""
     yield from (read(file), *LOOK, "undo", "redo", "report 0")
     if session.sheet.is_open:
-        _, _, justified, start, _ = dayfile.read(file)
-        yield write(justified, 0, len(file) - start)
+        _, _, justified, start, form, _ = dayfile.read(file)
+        yield write(justified, 0, len(file) - start, None if form == FORM_1 else form)
 
 
-def walked_back(session: Session, day: bytes) -> Lines:
-    """The sheets of a day's file by the starts of those behind them, until one is refused, and from starts that are none."""
+def walked_back(day: bytes) -> Lines:
+    """The sheets of a day's file by the starts of those behind them, until one is refused."""
     yield "# A day's file, sheet before sheet"
     for file in (day, b"\0" * 40 + day, day[:-1], b""):
         start, number = len(file), 0
         while not number:
             yield from (before(start, file), *LOOK, "undo", "report 1")
-            number, _, _, start, _ = dayfile.read_before(file, start)
+            number, _, _, start, _, _ = dayfile.read_before(file, start)
+
+
+def from_other_starts(day: bytes) -> Lines:
+    """Starts in a day's file that are none, and such as lie past its end, where its last sheet is read."""
+    yield "# A day's file, before starts that are none"
     last = dayfile.read(day)[3]
-    for start in (0, 1, 27, 28, 29, last - 1, last, last + 1, len(day) - 1, len(day), len(day) + 1, 2**32, 2**63, 2**64 - 1):
+    for start in (
+        0, 1, 27, 28, 29, last - 1, last, last + 1, len(day) - 1, len(day), len(day) + 1, 2**32, 2**63, 2**64 - 1
+    ):
         yield from (before(start, day), *LOOK)
 
 
 def written_and_read(rng: Random, session: Session) -> Lines:
     """What a write gives is read back, each sheet alone and all of them as a day's file, from its end."""
     yield "# Written and read back"
-    day = b""
     for lines, justified in (
-        (whole_sheet(), 0), (a_thousand(), 1), (twenty_thousand(), 0), ((*a_thousand(), room(4, 1, 301, BALLAST)), 1),
+        (a_thousand(), 1), (twenty_thousand(), 0),
         ((*a_thousand(), *chain(1, 11, 7, 40), mark(14, DEDUCTED), withdraw(3), hatchway(9_999, 70)), 0),
-        (("open 100", under_deck(9, 100, 7)), 1),
     ):
         yield from lines
-        file = dayfile.bytes_of(session.sheet, justified)
-        yield call("writef", justified, len(day), len(day) + len(file) + 2, 255)
+        file = dayfile.bytes_of(FORM_1, session.sheet, justified)
+        yield from (write(justified, 0, len(file)), *read_and_looked_at(session, file))
+    yield "# A day's file, written sheet behind sheet"
+    day = b""
+    for lines, justified in (
+        (whole_sheet(), 0), ((*a_thousand(), room(4, 1, 301, BALLAST)), 1), (("open 100", under_deck(9, 100, 7)), 1)
+    ):
+        yield from lines
+        file = dayfile.bytes_of(FORM_1, session.sheet, justified)
+        yield writef(justified, len(day), len(day) + len(file) + 2, 255)
         yield from read_and_looked_at(session, file)
         day += file
-    yield from walked_back(session, day)
+    yield from walked_back(day)
     yield "# A day's file, from its end"
     while day:
         yield from read_and_looked_at(session, day)
         day = day[:dayfile.read(day)[3]]
     yield "# 200 spaces"
     yield from (*a_thousand(), *(room(id, 1 + id % 3, id % 2) for id in range(9_999, 9_999 - s.PLACES + 3, -1)))
-    file = dayfile.bytes_of(session.sheet, 0)
+    file = dayfile.bytes_of(FORM_1, session.sheet, 0)
     yield from (write(0, 0, len(file) - 1), write(0, 0, len(file)), read(file), *LOOK, room(4, 1, 1), withdraw(9_990))
     yield from (room(4, 1, 1), room(5, 1, 1), "undo", "undo", "undo", "counts", write(1, 0, len(file)))
 
@@ -628,27 +670,39 @@ def changes_after_a_read(rng: Random, session: Session) -> Lines:
     """A sheet that was read has no open changes, and changes like any other; a refused read leaves one not open."""
     yield "# Changes after a read"
     yield from (*a_thousand(), hatchway(4, 20), mark(3, EXEMPT), "undo", "counts")
-    file = dayfile.bytes_of(session.sheet, 0)
+    file = dayfile.bytes_of(FORM_1, session.sheet, 0)
     yield from (read(file), "counts", "undo", "redo", hatchway(4, 1), withdraw(1), room(5, 1, 360), room(6, 1, 1))
     yield from (withdraw(1), mark(5, EXEMPT), room(6, 5, 1, EXEMPT), withdraw(4), "spaces", *["undo"] * 4, *LOOK)
     yield from ("redo", "redo", "counts", read(file), "counts", "redo", *LOOK_AND_REPORT)
     yield from (under_deck(7, 100, 3), withdraw(2), under_deck(7, 601, 3), under_deck(7, 600, 3), "report 0", "spaces")
     yield "# A refused read"
-    for damaged in (b"", file[1:], file[:-1], file + b"\0", file[16:], files.of_the_paper(net=1)):
-        yield from (*a_thousand(), hatchway(4, 20), "undo", read(damaged), *LOOK_AND_REPORT, "undo", "redo")
+    for wrong in (b"", file[1:], file[:-1], file + b"\0", file[16:], files.of_the_paper(net=1)):
+        yield from (*a_thousand(), hatchway(4, 20), "undo", read(wrong), *LOOK_AND_REPORT, "undo", "redo")
         yield from (hatchway(4, 20), withdraw(1), mark(1, 0), write(0, 0, 30), write(2, 9, 0))
     yield "# Lines that are no calls leave the sheet that was read"
     yield from (read(file), "read", "read 0", "read 0x", "write 0 0 65537", "writef 0 0 9 256", *LOOK_AND_REPORT)
 
 
+ALWAYS_READ = (  # of the larger ones
+    "R with id 3, 200 of 200", "deck 99 at the 200th", "7 by entry in form 1", "7 by entry in form 2",
+    "201 records in form 1", "201 records in form 2",
+)
+
+
+def one_in(case: files.Case) -> int:
+    """Of so many generated files like this one is read: of the small ones made for a number each, if unlike others."""
+    of_size = 1 if len(case.file) <= SMALL_FILE else 32 if len(case.file) <= LARGER_FILE else 1000
+    return of_size * (10 if case.again else 1) * (60 if case.made_for is None else 1)
+
+
 def generated_files(rng: Random, session: Session) -> Lines:
-    """Files in order and damaged: the small ones made for a number, and some of the larger and of those by chance."""
+    """Files in order and damaged: the small ones made for a number, unlike others; of all others some."""
     yield "# Generated files"
-    for name, file, made_for in files.standard():
-        one_in = 1 if len(file) <= SMALL_FILE else 8 if len(file) <= LARGER_FILE else 60
-        if rng.randrange(one_in if made_for else 12 * one_in) == 0:
+    for case in files.standard():
+        name, file = case.name, case.file
+        if name in ALWAYS_READ or rng.randrange(one_in(case)) == 0:
             yield from (f"# {name}", read(file))
-            if rng.randrange(5) == 0:
+            if len(file) <= LARGER_FILE and rng.randrange(8) == 0:
                 yield before(len(file), file + rng.randbytes(rng.randrange(40)))
             if session.sheet.is_open:
                 yield from ("spaces", *["undo", "redo", write(1, 0, 44)] * (rng.randrange(8) == 0))
@@ -841,14 +895,14 @@ def tanks_and_files(rng: Random, session: Session) -> Lines:
     one, other = tank(8, 1, BALLAST, 300, 0, *right), tank(9, 2, PLAIN, 300, 300, *right)
     yield "# Tanks: a U that came from a file, and the same entered anew"
     yield from (*a_thousand(), one, other, mark(1, PLAIN), room(10, 8, 20), *LOOK_AND_REPORT)
-    file = dayfile.bytes_of(session.sheet, 0)
+    file = dayfile.bytes_of(FORM_1, session.sheet, 0)
     yield from (*read_and_looked_at(session, file), withdraw(8), withdraw(10), withdraw(8), one, mark(1, PLAIN), one)
     yield from ("spaces", withdraw(1), one, "undo", one, "redo", divided(1, U, 1200, 600, 1200, 500), one)
     yield from LOOK_AND_REPORT
     yield from (withdraw(9), withdraw(2), "undo", other, "redo", divided(2, U, 1200, 600, 1601, 500), other, "spaces")
     yield from (tank(9, 2, PLAIN, 300, 300, [600] * 3, [300] * 21), *LOOK_AND_REPORT, *["undo"] * 9, *LOOK, one, other)
     yield from (*["redo"] * 4, "spaces", *["redo"] * 5, *LOOK_AND_REPORT, "redo")
-    yield from read_and_looked_at(session, dayfile.bytes_of(session.sheet, 0))
+    yield from read_and_looked_at(session, dayfile.bytes_of(FORM_1, session.sheet, 0))
     yield "# Tanks: a withdrawal undone, a mark, a mark undone and an entry made again keep m"
     yield from (*a_thousand(), withdraw(1), one, "undo", one, "spaces", "undo")
     yield from (mark(1, PLAIN), one, "undo", "undo", one)
@@ -1061,14 +1115,14 @@ def ends_said(rng: Random, session: Session) -> Lines:
         yield from tried(session, enter(7, 1, kind, PLAIN, *measures, ends))
     for kind, ends in product((0, 6, 255, 257, 2**64 - 1), ((), (2, 2), (3, 3))):
         yield enter(7, 1, kind, PLAIN, 600, *WITH_AREA, ends)
-    yield "# Ends: left out, one word alone, three words, words that are no numbers, and zeros in front"
-    for measures, ends in product((WITH_AREA, WITHOUT_AREA), ((), (UPRIGHT,), (UPRIGHT,) * 3)):
-        yield enter(2, 0, U, PLAIN, 600, *measures, ends)
+    yield "# Ends: left out, one word alone, which is a deck, three and four, words that are no numbers, zeros in front"
+    for measures, ends in product((WITH_AREA, WITHOUT_AREA), ((), (UPRIGHT,), (UPRIGHT,) * 3, (UPRIGHT,) * 4)):
+        yield from tried(session, enter(2, 0, U, PLAIN, 600, *measures, ends))
     left_out = [enter(7, 1, kind, PLAIN, *measures, ()) for kind, *measures in ((U, 600, *WITHOUT_AREA), *others)]
-    for line, ends in product(left_out, ("3", "3 3 3", "3 x", "- 3", "3 3,3", "3 18446744073709551616", "3 ", "")):
+    for line, ends in product(left_out, ("3 3 3 3", "3 x", "- 3", "3 3,3", "3 18446744073709551616", "3 ", "")):
         yield f"{line} {ends}"
-    for line in left_out:
-        yield from tried(session, f"{line} 002 0000003")
+    for line, ends in product(left_out, ("3", "3 3 3", "002 0000003")):
+        yield from tried(session, f"{line} {ends}")
     yield from LOOK
 
 
@@ -1121,12 +1175,12 @@ def pointed_and_files(rng: Random, session: Session) -> Lines:
     for ends in ((POINTED, POINTED), (UPRIGHT, INNER)):
         yield from ("open 1200", half(1, 0, 5, ends), half(2, 0, 1200, (POINTED, UPRIGHT)), hatchway(3, 20))
         yield from (*LOOK_AND_REPORT, write(0, 0, 76))
-        yield from read_and_looked_at(session, dayfile.bytes_of(session.sheet, 0))
+        yield from read_and_looked_at(session, dayfile.bytes_of(FORM_1, session.sheet, 0))
     yield "# Ends: a pointed one after a read"
     yield from (refused, withdraw(1), refused, *LOOK, accepted, *LOOK_AND_REPORT, "undo", refused, "redo", "counts")
     yield from (tank_of_a_thousand(4, 2, 600, 0, 20, 20), tank_of_a_thousand(4, 1, 600, 0, 1200, 500))
     yield from (tank_of_a_thousand(4, 1, 600, 0, 600, 500, BALLAST), room(5, 1, 60), room(6, 1, 1), *LOOK_AND_REPORT)
-    yield from (*read_and_looked_at(session, dayfile.bytes_of(session.sheet, 1)), refused, "counts")
+    yield from (*read_and_looked_at(session, dayfile.bytes_of(FORM_1, session.sheet, 1)), refused, "counts")
 
 
 # Sections of roundings
@@ -1223,8 +1277,8 @@ def not_rounded(rng: Random, session: Session) -> Lines:
         (R, 601, [7], [7]),
     )
     yield "# Roundings: none where 1, 2, 3, 4 or 6 is given, of any kind"
-    for opening in ("open 99", "open 1300"):
-        yield from (opening, divided(1, U, 1300, 600, 1200, 500), hatchway(2, 20))
+    for first in ("open 99", "open 1300"):
+        yield from (first, divided(1, U, 1300, 600, 1200, 500), hatchway(2, 20))
         for kind, length, heights, own in entries:
             yield from (enter(9, 1, kind, 4, length, heights, own), enter(9, 1, kind, 0, length, heights, [*own, 7]))
             yield from (enter(1, 1, kind, 0, length, heights, own), enter(9, 2, kind, DEDUCTED, length, heights, own))
@@ -1247,13 +1301,335 @@ def not_rounded(rng: Random, session: Session) -> Lines:
     yield from ("counts", "report 0")
 
 
+# Sections of decks, vessel numbers and forms
+
+SOME_DECKS = (0, 1, 98, 99, *BEYOND_DECKS)
+SOME_FORMS = (FORM_1, FORM_2, *BEYOND_FORMS)
+
+
+def of_every_kind(id: int, within: int) -> tuple[str, ...]:
+    """An entry of each kind and a tank, where a U of 600 is wanted of a tonnage length of 1200; a deck may follow."""
+    return (
+        enter(id, 0, U, PLAIN, 600, [99] * 3, [9] * 15), enter(id, 0, B, PLAIN, 1200, [500] * 7, [50] * 7),
+        enter(id, 0, S, PLAIN, 300, [500] * 3, [500] * 3), hatchway(id, 20), room(id, within, 20, BALLAST),
+        tank(id, within, BALLAST, 300, 0, [9] * 3, [9] * 15),
+    )
+
+
+def decks(rng: Random, session: Session) -> Lines:
+    """Decks at the ends of their range and beyond, or above their type, of every kind and of a tank."""
+    yield "# Decks of every kind and of a tank"
+    yield from ("open 1200", divided(1, U, 1200, 600, 1200, 500))
+    for line, deck in product(of_every_kind(2, 1), SOME_DECKS):
+        yield from tried(session, f"{line} {deck}")
+    yield "# Decks behind ends and without them, zeros in front, of a kind that is none"
+    others = ((B, 1200, [500] * 7, [50] * 7), (S, 300, [500] * 3, [500] * 3), (H, 10, [9], [9]), (R, 10, [9], [9]))
+    for (kind, *measures), ends in product(((U, 600, *WITH_AREA), *others), ((), (2, 1), (3, 3), (0, 0), (256, 4))):
+        for deck in (99, 100):
+            yield from tried(session, enter(2, 1, kind, PLAIN, *measures, ends, deck))
+    yield from (enter(2, 1, kind, PLAIN, 10, [9], [9], (), deck) for kind in (0, 6, 255, 260) for deck in (1, 100))
+    for zeros in ("099", "0" * 30 + "1", "00", "00100"):
+        yield from tried(session, f"{hatchway(2, 20)} {zeros}")
+        yield from tried(session, f"{tank(2, 1, PLAIN, 300, 0, [9] * 3, [9] * 15)} {zeros}")
+    yield from LOOK
+
+
+def of_every_number() -> tuple[str, ...]:
+    """Entries and tanks on the sheet of deck_refusals, while it has places: accepted, and refused with each number.
+
+    Those are 2 to 9, and 29; a deck may follow.
+    """
+    three, fifteen = [9] * 3, [9] * 15
+    return (
+        room(500, 1, 1),
+        # 2 by other causes, 3 and 4
+        room(500, 1, 1, 4), enter(500, 1, R, PLAIN, 0, [9], [9]), enter(500, 0, H, PLAIN, 9, [20_001], [9]),
+        enter(500, 0, U, PLAIN, 600, *WITH_AREA, (UPRIGHT, NOT_SAID)), enter(500, 0, S, PLAIN, 300, three, [9] * 4),
+        room(4, 1, 1), room(0, 1, 1),
+        # 5, 6, 7, 8 and 9
+        room(500, 77, 1), room(500, 4, 1), enter(500, 0, H, EXEMPT, 9, [9], [9]), room(500, 17),
+        room(500, 14, 0, EXEMPT), room(500, 1, 9999), enter(500, 0, U, PLAIN, 600, *WITH_AREA, (UPRIGHT, INNER)),
+        # tanks: accepted, 2, 3, 4, 5, 6, 9 and 29
+        tank(500, 1, PLAIN, 300, 0, three, fifteen), tank(500, 1, 4, 300, 0, three, fifteen),
+        tank(500, 1, PLAIN, 300, 150_001, three, fifteen), tank(500, 1, PLAIN, 300, 0, three, [9] * 14),
+        tank(4, 1, PLAIN, 300, 0, three, fifteen), tank(500, 77, PLAIN, 300, 0, three, fifteen),
+        tank(500, 3, PLAIN, 300, 0, three, fifteen), tank(500, 1, PLAIN, 300, 301, three, fifteen),
+        tank(500, 2, PLAIN, 300, 0, three, fifteen),
+    )
+
+
+def deck_refusals(rng: Random, session: Session) -> Lines:
+    """A deck above 99 beside every other number: only 1 goes before it; a deck in range beside the same."""
+    yield "# Decks: on a sheet not open"
+    yield "open 99 7"
+    yield from (f"{line} {deck}" for line in of_every_kind(2, 1) for deck in (99, 100))
+    yield "# Decks: beside every other number, on a sheet with places and on a full one"
+    yield from read_and_entered_anew()
+    yield from (hatchway(4, 50), *chain(1, 11, 7, 1), mark(14, DEDUCTED), room(21, 1, 10), *LOOK)
+    for full in (False, True):
+        if full:
+            yield from (room(id, 21) for id in range(1000, 1000 + s.PLACES - len(session.sheet.spaces)))
+        for line, deck in product(of_every_number(), (99, 100) if full else (0, 99, 100, 256)):
+            yield from tried(session, f"{line} {deck}")
+        yield from ("counts", "report 0")
+    yield "# Decks: beside a pointed end with area"
+    yield from ("open 1200", hatchway(1, 5))
+    for measures, deck in product((WITH_AREA, WITHOUT_AREA), SOME_DECKS):
+        yield from tried(session, enter(2, 0, U, PLAIN, 600, *measures, (POINTED, POINTED), deck))
+    yield from LOOK
+
+
+def decks_carried(rng: Random, session: Session) -> Lines:
+    """Marks, withdrawals, undo and redo carry the deck of a space, a tank's too; one entered again has its own."""
+    yield "# Decks: carried by marks, withdrawals, undo and redo"
+    yield from ("open 1200", divided(1, U, 1200, 600, 1200, 500, deck=1), room(2, 1, 20, PLAIN, 99))
+    yield from (tank(3, 1, BALLAST, 300, 0, [600] * 3, [300] * 15, 42), hatchway(4, 20), hatchway(5, 20, 7), *LOOK)
+    for line in (
+        room(6, 1, 20, PLAIN, 33), tank(6, 1, PLAIN, 300, 300, [9] * 3, [9] * 15, 44), mark(2, DEDUCTED),
+        mark(3, EXEMPT), mark(1, PLAIN), mark(5, PLAIN), withdraw(2), withdraw(3), withdraw(4), withdraw(5),
+        mark(5, EXEMPT), withdraw(1), room(6, 2, 1, PLAIN, 100),
+    ):
+        yield from (line, "spaces", "undo", "spaces", "redo", "spaces", "undo")
+    yield from (*["undo"] * 5, "spaces", *["redo"] * 5, *LOOK)
+    yield "# Decks: an id freed and entered again with another deck, or with none"
+    for one, other in combinations((None, 1, 2, 99), 2):
+        for first, second in ((one, other), (other, one)):
+            yield from (withdraw(5), hatchway(5, 20, first), withdraw(2), room(2, 1, 20, EXEMPT, second), "spaces")
+            yield from ("undo", "undo", "spaces", "undo", "undo", "spaces", *["redo"] * 4, "spaces")
+    yield "# Decks: the 64th change and the 65th"
+    yield from ("open 1200 9", divided(1, U, 1200, 600, 1200, 500, deck=98), *[mark(1, PLAIN)] * 62)
+    yield from (room(2, 1, 20, PLAIN, 3), *LOOK, tank(3, 1, PLAIN, 300, 0, [9] * 3, [9] * 15, 4), *LOOK)
+    yield from (*["undo"] * 3, "spaces", *["redo"] * 3, *LOOK, *["undo"] * 64, *LOOK, *["redo"] * 64, *LOOK)
+
+
+def vessels(rng: Random, session: Session) -> Lines:
+    """Vessel numbers given at opening and never changed; those that are none; 0 where no sheet is open."""
+    yield "# Vessel numbers"
+    for vessel in files.VESSELS:
+        yield from (opening(1200, vessel), *LOOK, divided(1, U, 1200, 600, 1200, 500), mark(1, PLAIN), "spaces")
+        yield from ("undo", "undo", "spaces", "undo", "redo", withdraw(1), "spaces", withdraw(1), "undo", "report 0")
+        yield from (write(0, 0, 9), write(0, 0, 9, FORM_2), room(0, 0, 1), *LOOK)
+        for beyond in (2**32, 2**32 + vessel, 2**64 - 1, 2**64):
+            yield from (opening(1200, beyond), "spaces")
+        for length in (99, 150_001, 2**64 - 1):
+            yield from (opening(length, vessel), *LOOK)
+        yield from (opening(100, vessel), "spaces", "open 1200", "spaces", hatchway(1, 5))
+    yield from ("open 1200 007", "spaces", "open 1200 " + "0" * 40 + "4294967295", "spaces", "open 1200", "spaces")
+    yield "# Vessel numbers: read from either form, and gone where a read is refused"
+    of_form_1 = files.of_one(FORM_1)
+    for vessel in files.VESSELS:
+        file = files.of_one(FORM_2, vessel=vessel)
+        yield from ("open 1200 8", read(file), "spaces", mark(1, PLAIN), "undo", "spaces", write(0, 0, 52, FORM_2))
+        yield from (before(len(of_form_1), of_form_1 + file), "spaces", opening(1200, vessel), read(file[1:]), "spaces")
+        yield from (opening(1200, vessel), read(of_form_1), "spaces")
+
+
+def numbered(lines: Iterable[str], vessel: int) -> Lines:
+    """The lines, with a vessel number where they open a sheet."""
+    yield from (f"{line} {vessel}" if line.startswith("open ") else line for line in lines)
+
+
+def sizes_of_both(session: Session) -> tuple[int, int]:
+    """The bytes that the current sheet needs, in each form."""
+    of_form_1, of_form_2 = (dayfile.distance(form, len(session.sheet.spaces)) for form in FORMS)
+    return of_form_1, of_form_2
+
+
+def forms_of_writes(rng: Random, session: Session) -> Lines:
+    """Every form on a sheet in every condition, with a vessel number and without, into buffers that fit and that don't.
+
+    The order is 1, 2, 13, 14, 20, 15.
+    """
+    yield "# Forms of writes"
+    for condition, vessel in product(conditions(), (0, 7)):
+        yield from (*numbered(condition, vessel), "spaces")
+        of_form_1, of_form_2 = sizes_of_both(session)
+        for form, justified in product(FORMS, (0, 1, 2)):
+            for size in (0, of_form_1 - 1, of_form_1, of_form_2 - 1, of_form_2):
+                yield write(justified, 0, size, form)
+        for form, justified in product(BEYOND_FORMS[:5], (0, 2)):
+            yield from (write(justified, 0, of_form_2, form), write(justified, 1, 0, form))
+    yield "# Forms above their type, and zeros in front"
+    for vessel in (0, 7):
+        yield from (*numbered(a_thousand(), vessel), *(write(0, 0, 92, form) for form in SOME_FORMS))
+        yield from (*(writef(0, 1, 95, 170, form) for form in SOME_FORMS), "write 0 0 92 002", "writef 0 0 92 9 0001")
+    yield "# Places and fillings, in form 2"
+    yield from numbered(a_thousand(), 7)
+    size = dayfile.distance(FORM_2, len(session.sheet.spaces))
+    for at in (0, 1, 2, 16, 28):
+        yield from (writef(0, at, at + size + more, 255, FORM_2) for more in (-1, 0, 1))
+        yield from (write(1, at, at, FORM_2), write(1, at + 1, at, FORM_2))
+    for at in (size, size + 1, 2**16, 2**32 - size, 2**32, 2**63, 2**64 - size, 2**64 - size + 1, 2**64 - 1):
+        yield from (write(0, at, size, FORM_2), write(0, at, size, FORM_1))
+    yield from (writef(0, 3, size + 5, fill, FORM_2) for fill in (0, 1, 127, 128, 255))
+    yield from ("counts", "spaces")
+
+
+def numbers_lost(rng: Random, session: Session) -> Lines:
+    """20 by a deck at any place, by the vessel number and by both, beside 15; and gone again with the number."""
+    yield "# Numbers that form 1 would lose: a deck, the vessel number, both"
+    whole = divided(1, U, 1200, 1200, 1200, 500)
+    entries = (whole, room(2, 1, 20, BALLAST), tank(3, 1, PLAIN, 200, 0, [9] * 3, [9] * 15))
+    for vessel, decked in product((None, 7), (None, 1, 2, 3)):
+        yield opening(1200, vessel)
+        yield from (f"{line} 99" if id == decked else line for id, line in enumerate(entries, start=1))
+        of_form_1, of_form_2 = sizes_of_both(session)
+        for form, size in ((FORM_1, of_form_1), (FORM_2, of_form_2)):
+            yield from (write(0, 0, size, form), write(0, 0, size - 1, form), write(0, 0, 0, form))
+            yield from (write(2, 0, size, form), writef(1, 2, size + 3, 7, form), write(0, 2**64 - 1, size, form))
+        if decked in (2, 3):
+            yield from (withdraw(decked), write(0, 0, 60), write(0, 0, 59), "undo", write(0, 0, 76), "redo", "undo")
+            yield from (mark(decked, DEDUCTED), write(0, 0, 76), withdraw(decked), write(0, 0, 60), "spaces")
+    yield "# Numbers that form 1 would lose: a vessel number in any of its bytes"
+    for vessel in files.VESSELS:
+        yield from (opening(1200, vessel), whole, write(0, 0, 44), write(0, 0, 43), write(0, 0, 52, FORM_2))
+    yield "# Numbers that form 1 would lose: a deck of one of 200 spaces, in the middle and at the end"
+    yield from ("open 1200", whole, *(f"{room(id, 1)}{' 1' if id == 100 else ''}" for id in range(2, s.PLACES + 1)))
+    yield from (write(0, 0, 0), withdraw(100), write(0, 0, 0), room(100, 1), write(0, 0, 0), withdraw(100))
+    yield from (room(100, 1, 0, PLAIN, 99), write(0, 0, 0), "undo", write(0, 0, 0), "redo", write(0, 0, 0), "counts")
+    yield "# Numbers that form 1 would lose: only what stands counts, not what was undone or can be"
+    yield from (*a_thousand(), write(0, 0, 76), hatchway(4, 20, 5), write(0, 0, 92), "undo", write(0, 0, 76), "redo")
+    yield from (write(0, 0, 92), withdraw(4), write(0, 0, 76), hatchway(4, 20, 0), write(0, 0, 92), *LOOK)
+    yield "# A sheet of form 2 whose numbers are all 0 goes to form 1"
+    for vessel in (0, 7):
+        file = files.file_of(100, files.filled(2), form=FORM_2, vessel=vessel)
+        yield from (*read_and_looked_at(session, file), write(0, 0, 60, FORM_1), write(0, 0, 59, FORM_1))
+        yield from (hatchway(3, 1, 4), write(0, 0, 92, FORM_1), write(0, 0, 92, FORM_2))
+        yield from ("undo", write(0, 0, 60, FORM_1))
+
+
+def in_both_forms(rng: Random, session: Session) -> Lines:
+    """Sheets with decks and a vessel number written, read back and written again, and changed after the read."""
+    yield "# Written in form 2 and read back"
+    for lines, vessel, justified in (
+        (whole_sheet(), 0, 0), (a_thousand(), 1042, 1),
+        ((*a_thousand(), room(4, 1, 301, BALLAST, 12), hatchway(5, 70, 99)), GREATEST_VESSEL, 1),
+    ):
+        yield from numbered(lines, vessel)
+        file = dayfile.bytes_of(FORM_2, session.sheet, justified)
+        yield from (writef(justified, 3, len(file) + 4, 255, FORM_2), *read_and_looked_at(session, file))
+        yield from (withdraw(3), "undo", mark(1, PLAIN), "spaces", write(justified, 0, len(file), FORM_2))
+        yield write(justified, 0, len(file), FORM_1)
+    yield "# 200 spaces in form 2"
+    yield from (*numbered(a_thousand(), 5), *(room(id, 1 + id % 3, 0, PLAIN, id % 100) for id in range(101, 298)))
+    size = dayfile.distance(FORM_2, s.PLACES)
+    yield from (write(0, 0, size - 1, FORM_2), write(0, 0, size, FORM_2), write(0, 0, size, FORM_1), room(9, 1, 1))
+
+
+def days_of_both_forms(rng: Random, session: Session) -> Lines:
+    """A day's file of sheets in both forms, walked back, and each of its sheets moved."""
+    sheets = (
+        files.of_one(FORM_1), files.of_one(FORM_2, deck=42, vessel=5), files.of_one(FORM_2, vessel=6),
+        files.of_one(FORM_1, justified=1), files.of_one(FORM_2, deck=42),
+    )
+    yield from walked_back(b"".join(sheets))
+    yield from (*from_other_starts(sheets[3] + sheets[4]), *from_other_starts(sheets[4] + sheets[3]))
+    yield "# An earlier sheet that is refused, with each number"
+    for file in unreadable(FORM_2):
+        yield from (before(len(file), file + sheets[0]), "spaces")
+    yield "# Each sheet of a day in both forms moved"
+    yield from numbered(a_thousand(), 3)
+    for end in range(1, len(sheets) + 1):
+        yield from (move(b"".join(sheets[:end]), (FORM_1, FORM_2)[end % 2], 5, 60, 255), "spaces")
+
+
+# Sections of moves
+
+def moved_both_ways(file: bytes, at: int, more: int, fill: int) -> Lines:
+    """A file moved up and back, or back and up, if it can be, and in each form twice."""
+    for form in FORMS:
+        count = dayfile.last_trailer(file).count
+        size = dayfile.distance(form, count)
+        yield move(file, form, at, at + size + more, fill)
+        number, _, _, after = dayfile.move(file, form, bytes(size), 0)
+        if not number:
+            yield from (move(after, other, 0, dayfile.distance(other, count), fill) for other in FORMS)
+
+
+def moves(rng: Random, session: Session) -> Lines:
+    """Sheets moved up, back and in the form they have, which is a copy; the current sheet stays as it is."""
+    yield "# Moves up, back and in the own form"
+    yield from (*numbered(a_thousand(), 77), hatchway(4, 20, 6), "undo", *LOOK)
+    plain = files.PLAIN_THREE
+    for number, file in enumerate((
+        files.of_the_paper(), files.of_the_paper(form=FORM_2), files.of_the_paper(form=FORM_2, vessel=9),
+        files.file_of(1200, plain, justified=1), files.of_three(FORM_2), files.three_with(FORM_2, 2, deck=0),
+        files.file_of(1200, plain, form=FORM_2, vessel=1), files.of_one(FORM_2),
+        files.file_of(1200, [*plain[:2], plain[2]._replace(deck=99)], form=FORM_2, justified=1),
+        files.file_of(1200, files.a_thousand(301)), files.file_of(1200, files.a_thousand(301), form=FORM_2, vessel=4),
+        b"anything" + files.of_one(FORM_1), b"\2" * 40 + files.of_one(FORM_2),
+    )):
+        yield from moved_both_ways(file, number % 3, number % 4, (0, 255, 170)[number % 3])
+        yield from ("counts", "spaces")
+    yield from ("redo", *LOOK_AND_REPORT)
+    yield "# Moves of 200 records, up and back, of 201 and of none"
+    for form, asked in ((FORM_1, FORM_2), (FORM_2, FORM_1)):
+        yield move(files.file_of(100, files.filled(s.PLACES), form=form), asked, 0, dayfile.distance(asked, s.PLACES))
+        yield from (move(files.file_of(100, [], form=form), one, 0, 32) for one in FORMS)
+    yield from (move(files.file_of(100, files.filled(s.PLACES + 1)), FORM_1, 0, 1), *LOOK)
+
+
+def unreadable(form: int) -> tuple[bytes, ...]:
+    """Files of a form that are refused with each of reading's numbers, 17 at several positions."""
+    wrong_records = {
+        FORM_1: ((1, "zero", 1), (3, "id", 1)),
+        FORM_2: ((1, "zero", 1), (2, "deck", 100), (3, "second_zero", 256), (3, "id", 1)),
+    }
+    return (
+        files.of_three(form)[1:], files.of_three(form, telling=1),
+        *(files.three_with(form, position, **{field: value}) for position, field, value in wrong_records[form]),
+        files.of_three(form, length=1201), files.file_of(1200, files.a_thousand(301), form=form, justified=0),
+        files.of_three(form, net=0),
+    )
+
+
+def refused_moves(rng: Random, session: Session) -> Lines:
+    """Moves refused with 2, with each of reading's numbers, with 20 and with 15, alone and together, in that order."""
+    yield "# Moves refused with reading's numbers, with room and without, and with 2"
+    yield from (*numbered(a_thousand(), 77), hatchway(4, 20, 6), "undo", *LOOK)
+    for file in (b"", *unreadable(FORM_1), *unreadable(FORM_2)):
+        yield from (move(file, FORM_1, 0, 0, 5), move(file, FORM_2, 1, 95, 170), "spaces")
+        yield from (move(file, one_of(rng, BEYOND_FORMS), 0, 3, 1), "spaces")
+    yield "# Moves to which each of reading's numbers applies, or two that stand next to each other, and 20 and 15"
+    neighbours = zip(files.ORDER, files.ORDER[1:])
+    for numbers in (*((number,) for number in files.ORDER), *neighbours):
+        yield move(files.with_faults(rng, numbers, FORM_2, vessel=9)[0], FORM_1, 0, 0)
+    yield "spaces"
+    yield "# Moves refused with 2, whatever the form of the file and the room"
+    alone = {form: files.of_one(form) for form in FORMS}
+    with_vessel = files.of_one(FORM_2, vessel=9)
+    for form in BEYOND_FORMS:
+        yield from (move(alone[FORM_1], form, 0, 60, 3), move(alone[FORM_2], form, 0, 9, 3), move(b"", form, 1, 0))
+        yield move(with_vessel, form, 2**64 - 1, 2)
+    yield "# Moves refused with 20 and 15: a byte short in each form, and both together"
+    for file in (
+        *alone.values(), with_vessel, files.of_one(FORM_2, deck=1),
+        files.of_one(FORM_2, deck=99, vessel=GREATEST_VESSEL),
+    ):
+        for asked, size in product(FORMS, (44, 52)):
+            yield from (move(file, asked, at, room_left, 8) for at, room_left in ((0, size), (0, size - 1), (1, size)))
+        yield "spaces"
+    yield "# Moves refused with 15: places at the end of a buffer, past it and far behind"
+    for asked, size in ((FORM_1, 44), (FORM_2, 52)):
+        for at in (
+            size, size + 1, 2**16, 2**32 - size, 2**32 - 1, 2**32, 2**32 + 1, 2**63 - 1, 2**63, 2**64 - size - 1,
+            2**64 - size, 2**64 - size + 1, 2**64 - 1,
+        ):
+            yield from (move(alone[FORM_1], asked, at, size, 6), move(with_vessel, asked, at, size))
+        yield from (move(alone[FORM_2], asked, at, at, 6) for at in (0, 1, size - 1, size))
+    yield from ("redo", *LOOK_AND_REPORT)
+    yield "# A move in the largest buffer, and zeros in front"
+    yield move(alone[FORM_1], FORM_2, GREATEST_SIZE - 52, GREATEST_SIZE, 1)
+    yield f"move {alone[FORM_2].hex()} 001 0001 00046 0255"
+
+
 # Lines that are no calls, for each remark
 MALFORMED = (
     "", "#", "# open 1200", " ", " undo", "Undo", "UNDO", "undo\t", "undo\r", "open\t1200", "close", "reports 0", "0",
     "?", "-", "enter,1", " # open 1200", "\topen 1200", "counts#",
-    "open", "open 1200 1200", "open  1200", "open 1200 ", "undo ", "undo 1", "redo 0", "counts 0", "counts ",
+    "open", "open 1200 12 12", "open  1200", "open 1200 ", "undo ", "undo 1", "redo 0", "counts 0", "counts ",
     "spaces 1", "report", "report 0 0", "report  ", "withdraw", "withdraw 1 2", "mark 1", "mark 1 0 0", "mark 1 0 ",
-    "mark", "enter 9 0 4 0 10 5", "enter 9 0 4 0 10 5 5 5", "enter", "enter 9 0 4 0 10  5 5",
+    "mark", "enter 9 0 4 0 10 5", "enter 9 0 4 0 10 5 5 2 2 5 5", "enter", "enter 9 0 4 0 10  5 5",
     "enter 9 0 4 0 10 5 ,5 ", "enter ",
     "open x", "open ", "open -1", "open +1200", "open 1200.0", "open 1e3", "open 0x4b0", "open 1_200", "open 12,00",
     "open -", "report -", "report ", "report 0x0", "withdraw a", "withdraw -1", "mark x 0", "mark 1 y", "mark 1 -",
@@ -1268,7 +1644,7 @@ MALFORMED = (
     "enter 9 0 4 0 18446744073709551616 5 5", "enter 9 0 4 0 10 18446744073709551616 5",
     "enter 9 0 4 0 10 5 5,18446744073709551616",
     enter(9, 0, H, 0, 10, [5] * (MOST_NUMBERS + 1), [5]), enter(9, 0, H, 0, 10, [5], [5] * (MOST_NUMBERS + 1)),
-    "enter 9 0 4 0 10 5 5 2", "enter 9 0 4 0 10 5 5 2 2 2", "enter 9 0 4 0 10 5 5 ", "enter 9 0 4 0 10 5 5 x",
+    "enter 9 0 4 0 10 5 5 ", "enter 9 0 4 0 10 5 5 x",
     "enter 9 0 4 0 10 5 5 x 2", "enter 9 0 4 0 10 5 5 2 x", "enter 9 0 4 0 10 5 5 - 2", "enter 9 0 4 0 10 5 5 2 -",
     "enter 9 0 4 0 10 5 5 2,2 2", "enter 9 0 4 0 10 5 5  2", "enter 9 0 4 0 10 5 5 2 ", "enter 9 0 4 0 10 5 5  ",
     "enter 9 0 4 0 10 5 5 -1 2", "enter 9 0 4 0 10 5 5 18446744073709551616 2",
@@ -1282,7 +1658,7 @@ MALFORMED = (
     "enter 9 0 4 0 10 x " + word([5] * (MOST_NUMBERS + 1)), "enter 9 0 4 0 10 5" + ",x" * MOST_NUMBERS + " 5",
     "enter 9 0 4 0 10 5 " + "," * MOST_NUMBERS, "enter 9 0 4 0 10 5 " + "," * (MOST_NUMBERS - 1),
     # the calls on files
-    "write", "write 0 0", "write 0 0 0 0", "write 0 0 0 ", "writef 0 0 0", "writef 0 0 0 0 0", "read", "read 00 00",
+    "write", "write 0 0", "write 0 0 0 1 1", "write 0 0 0 ", "writef 0 0 0", "writef 0 0 0 0 1 1", "read", "read 00 00",
     "read 00 ", "write x 0 0", "write 0 x 0", "write 0 - 0", "write 0 0 x", "write 0 0 ", "write 0 0 -", "write 0 -1 0",
     "write 0 0 0x4", "writef x 0 0 0", "writef 0 x 0 0", "writef 0 0 x 0", "writef 0 0 0 x", "writef 0 0 0 ff",
     "writef 0 0 0 -", "write 18446744073709551616 0 0", "write 0 18446744073709551616 0",
@@ -1292,10 +1668,11 @@ MALFORMED = (
     "writef 0 0 0 257", "writef 0 0 0 18446744073709551615", "writef 0 0 65537 256", "writef 0 0 65537 x",
     "writef 0 0 x 256", "writef 0 x 65537 256", "writef 0 0 4 00256", "write 0 0 0065537", "read ", "read 0",
     "read 000", "read 0g", "read g0", "read 0A", "read FF", "read 0x", "read 0x00", "read --", "read -0", "read 0-",
-    "before", "before 0", "before 00", "before 0 00 00", "before 0 00 ", "before  00", "before x 00", "before - 00", "before 00 ",
+    "before", "before 0", "before 00", "before 0 00 00", "before 0 00 ", "before  00", "before x 00", "before - 00",
+    "before 00 ",
     "before 0 0", "before 0 0g", "before 0 --", "before 18446744073709551616 00", "before 18446744073709551616 0g",
     # tanks and zones
-    "tank", "tank 9 1 0 10 0 5", "tank 9 1 0 10 0 5 5 5", "tank 9 1 0 10 0 5 5 ", "Tank 9 1 0 10 0 5 5",
+    "tank", "tank 9 1 0 10 0 5", "tank 9 1 0 10 0 5 5 5 5", "tank 9 1 0 10 0 5 5 ", "Tank 9 1 0 10 0 5 5",
     "tank x 1 0 10 0 5 5", "tank 9 - 0 10 0 5 5", "tank 9 1 x 10 0 5 5", "tank 9 1 0 x 0 5 5", "tank 9 1 0 10 -1 5 5",
     "tank 9 1 0 10 - 5 5", "tank 9 1 0 10 0 5, 5", "tank 9 1 0 10 0 5 x", "tank 9 1 0 10  5 5",
     "tank 9 1 0 10 18446744073709551616 5 5", "tank 9 1 0 10 0 18446744073709551616 5",
@@ -1305,14 +1682,42 @@ MALFORMED = (
     "zones x 4800 800 0", "zones 4800 - 800 0", "zones 4800 4800 8,0 0", "zones 4800 4800 800 -",
     "zones 4800 4800 800 -1",
     "zones 18446744073709551616 4800 800 0", "zones 4800 4800 800 18446744073709551616",
-    "before x 0", "read ,", "read 00,00", "read +0", "read 0.", "read 00\r", "read 0\t", "read 0:", "read `0", "read /0", "read @a",
+    # decks, vessel numbers, forms and moves
+    "open 1200 4294967296", "open 1200 04294967296", "open 99 4294967297", "open 1200 18446744073709551615",
+    "open 1200 18446744073709551616", "open 1200 x", "open 1200 -", "open 1200 -1", "open 1200 1,2", "open 1200 1 ",
+    "open 1200  1", "open x 4294967296", "open 18446744073709551616 4294967296", "open 4294967296 4294967296",
+    "open 1200 x x", "open  7",
+    "enter 9 0 4 0 10 5 5 -", "enter 9 0 4 0 10 5 5 -1", "enter 9 0 4 0 10 5 5 1,2",
+    "enter 9 0 4 0 10 5 5 18446744073709551616", "enter 9 0 4 0 10 5 5 2 2 x", "enter 9 0 4 0 10 5 5 2 2 ",
+    "enter 9 0 4 0 10 5 5 2 2 -", "enter 9 0 4 0 10 5 5 2 2 18446744073709551616", "enter 9 0 4 0 10 5 5 2 x 2",
+    "enter 9 0 4 0 10 5 5 x 2 18446744073709551616", "enter 9 0 4 0 10 5 5 2 2 2 ", "enter 9 0 4 0 10 5 5 2 2 2 x",
+    "enter 9 0 4 0 10 5 x 18446744073709551616", "enter 9 0 1 0 10 5 5 2 2 2 2",
+    "tank 9 1 0 10 0 5 5 x", "tank 9 1 0 10 0 5 5 -", "tank 9 1 0 10 0 5 5 18446744073709551616",
+    "tank 9 1 0 10 0 5 5 1 ", "tank 9 1 0 10 0 5 5 2 2", "tank 9 1 0 10 0 5 x 18446744073709551616",
+    "write 0 0 0 x", "write 0 0 0 -", "write 0 0 0 2,2", "write 0 0 0 18446744073709551616", "write 0 0 65537 x",
+    "write 0 0 65537 2", "write 0 0 x 18446744073709551616", "write 0 0 0 1 ", "write 0 0 0 2 2",
+    "writef 0 0 0 0 x", "writef 0 0 0 0 ", "writef 0 0 0 0 -", "writef 0 0 0 0 18446744073709551616",
+    "writef 0 0 0 256 x", "writef 0 0 0 256 2", "writef 0 0 65537 256 2", "writef 0 0 0 x 2", "writef 0 0 0 0 2 2",
+    "move", "move 00", "move 00 1", "move 00 1 0", "move 00 1 0 0", "move 00 1 0 0 0 0", "move 00 1 0 0 0 ",
+    "Move 00 1 0 0 0", "moves 00 1 0 0 0", "move  1 0 0 0", "move 0 1 0 0 0", "move 0g 1 0 0 0", "move 0A 1 0 0 0",
+    "move -- 1 0 0 0",
+    "move 0x00 1 0 0 0", "move 00 x 0 0 0", "move 00 - 0 0 0", "move 00  0 0 0", "move 00 1 x 0 0", "move 00 1 - 0 0",
+    "move 00 1 0 x 0", "move 00 1 0 - 0", "move 00 1 0 0 x", "move 00 1 0 0 -", "move 00 1 0 0 ff",
+    "move 00 18446744073709551616 0 0 0", "move 00 1 18446744073709551616 0 0", "move 00 1 0 18446744073709551616 0",
+    "move 00 1 0 0 18446744073709551616", "move 00 1 0 65537 0", "move - 3 0 65537 0", "move 00 1 0 0 256",
+    "move 00 1 0 65537 256", "move 00 1 0 65537 x", "move 00 1 0 x 256", "move 00 1 x 65537 256",
+    "move 00 x 0 65537 256", "move 0g x 0 65537 256", "move 0 18446744073709551616 0 0 0", "move 0g 1 0 0 0 0",
+    "move - 1 0 0 00256",
+    # characters beside those of hex
+    "before x 0", "read ,", "read 00,00", "read +0", "read 0.", "read 00\r", "read 0\t", "read 0:", "read `0",
+    "read /0", "read @a",
 )
 
 
 def malformed(rng: Random, session: Session) -> Lines:
-    """Lines that are no calls, on a sheet not open and on one that stands; they change nothing."""
+    """Lines that are no calls, on a sheet not open all but the longest, and on one that stands; they change nothing."""
     yield "# Lines that are no calls"
-    yield from ("open 99", *MALFORMED, *LOOK)
+    yield from ("open 99", *(line for line in MALFORMED if len(line) < 1_100), *LOOK)
     yield from (*a_thousand(), hatchway(5, 5), "undo", *MALFORMED, *LOOK_AND_REPORT, "redo", *LOOK)
     yield from ("read " + "x" * (MOST_DIGITS + 1), *LOOK)
 
@@ -1436,6 +1841,25 @@ def unread_ends(rng: Random) -> Ends | None:
     return tuple(one_of(rng, (NOT_SAID, *s.ENDS, *BEYOND_ENDS)) for _ in range(2)) if rng.randrange(3) == 0 else None
 
 
+def a_vessel(rng: Random) -> int | None:
+    """A vessel number, half of the time none or left out."""
+    return one_of(rng, (None, None, 0, 1, GREATEST_VESSEL, rng.randrange(2**32)))
+
+
+def a_deck(rng: Random, sheet: Sheet) -> int | None:
+    """A deck, mostly in its range, now and then beyond; on a sheet without a vessel number mostly left out."""
+    if rng.randrange(30) == 0:
+        return one_of(rng, BEYOND_DECKS)
+    if rng.randrange(2 if sheet.vessel else 20):
+        return one_of(rng, (None, None, s.NO_DECK))
+    return one_of(rng, (1, 99, rng.randrange(100)))
+
+
+def a_form(rng: Random) -> int | None:
+    """A form, now and then left out or none."""
+    return one_of(rng, (None, FORM_1, FORM_1, FORM_2, FORM_2, FORM_2, one_of(rng, BEYOND_FORMS)))
+
+
 def entering(rng: Random, sheet: Sheet, most: int) -> Lines:
     """An entry of any kind, a U more likely while one is wanted."""
     short = s.under_deck_length(sheet.spaces) < sheet.length
@@ -1478,7 +1902,7 @@ def an_entry(rng: Random, sheet: Sheet, most: int, kind: int) -> str:
         length = one_of(rng, (0, 150_001, *BEYOND_32))
     elif fault == 3:
         kind = one_of(rng, (0, 6, *BEYOND_8))
-    return enter(id, within, kind, a_standing(rng, kind), length, heights, breadths, ends)
+    return enter(id, within, kind, a_standing(rng, kind), length, heights, breadths, ends, a_deck(rng, sheet))
 
 
 def ends_of_tank(rng: Random, tonnage_length: int, under_deck_length: int) -> tuple[int, int]:
@@ -1520,7 +1944,8 @@ def entered_anew(rng: Random, sheet: Sheet) -> Lines:
         if space.kind == U and space.m == s.NO_M and not s.rooms(sheet.spaces, space.id):
             new = figures.asked(rng, U, sheet.length, space.length, 999, one_of(rng, (900, 1900)))
             measures = with_ends(rng, list(new.heights), list(new.breadths))
-            yield from (withdraw(space.id), enter(space.id, 0, U, PLAIN, new.length, *measures))
+            deck = one_of(rng, (None, space.deck))
+            yield from (withdraw(space.id), enter(space.id, 0, U, PLAIN, new.length, *measures, deck))
             return
 
 
@@ -1529,7 +1954,8 @@ def tank_elsewhere(rng: Random, sheet: Sheet, most: int) -> Lines:
     id = new_id(rng, sheet, most)
     within = one_of(rng, (id, 0, an_id(rng, sheet, most), an_id(rng, sheet, most), one_of(rng, OFF_IDS)))
     depths, breadths = some(rng, 3, 0, 99), some(rng, 15, 0, 99)
-    yield tank(id, within, a_standing(rng, R), rng.randint(1, 600), rng.randint(0, 9), depths, breadths)
+    length, deck = rng.randint(1, 600), a_deck(rng, sheet)
+    yield tank(id, within, a_standing(rng, R), length, rng.randint(0, 9), depths, breadths, deck)
 
 
 def tanking(rng: Random, sheet: Sheet, most: int) -> Lines:
@@ -1562,7 +1988,7 @@ def tank_within(rng: Random, sheet: Sheet, most: int, own: s.Space) -> Lines:
         fore = one_of(rng, (150_001, own.length - length + 1, own.length, fore + 1, *BEYOND_32))
     elif fault == 4:
         depths, breadths = [*depths, 9], [*breadths, *breadths[:len(breadths) // len(depths)]]
-    yield tank(id, own.id, standing, length, fore, depths, breadths)
+    yield tank(id, own.id, standing, length, fore, depths, breadths, a_deck(rng, sheet))
 
 
 def zoning(rng: Random, sheet: Sheet, most: int) -> Lines:
@@ -1616,18 +2042,60 @@ def reporting(rng: Random, sheet: Sheet, most: int) -> Lines:
 
 
 def writing(rng: Random, sheet: Sheet, most: int) -> Lines:
-    """A write into a buffer of about the size that it needs, where the sheet is small."""
+    """A write into a buffer of about the size that it needs in its form, where the sheet is small."""
     if len(sheet.spaces) <= FEW_SPACES:
-        at, more = one_of(rng, (0, 0, 1, 5, 29)), one_of(rng, (0, 0, 1, 7, -1))
-        size = at + dayfile.distance(len(sheet.spaces)) + more
-        yield call("writef", one_of(rng, (0, 0, 1, 2)), at, size, one_of(rng, (0, 255)))
+        at, more, form = one_of(rng, (0, 0, 1, 5, 29)), one_of(rng, (0, 0, 1, 7, -1, -1)), a_form(rng)
+        size = at + dayfile.distance(form if form in FORMS else FORM_1, len(sheet.spaces)) + more
+        yield writef(one_of(rng, (0, 0, 1, 2)), at, size, one_of(rng, (0, 255)), form)
+
+
+def can_be_written(sheet: Sheet, form: int, most: int) -> bool:
+    """Whether a marked write in this form is accepted where there is room, and the sheet has no more spaces than so."""
+    few = len(sheet.spaces) <= most
+    return few and not s.numbers_of_report(sheet, s.JUSTIFIED) and not dayfile.would_lose(sheet, form)
 
 
 def rereading(rng: Random, sheet: Sheet, most: int) -> Lines:
     """A small sheet that can be written is read back, which ends its open changes."""
-    if len(sheet.spaces) <= FEW_SPACES and not s.numbers_of_report(sheet, s.JUSTIFIED):
-        file = dayfile.bytes_of(sheet, s.JUSTIFIED)
+    form = one_of(rng, tuple(FORMS))
+    if can_be_written(sheet, form, FEW_SPACES):
+        file = dayfile.bytes_of(form, sheet, s.JUSTIFIED)
         yield from (one_of(rng, (read(file), before(len(file), file + b"\0" * rng.randrange(3)))), *LOOK)
+
+
+def a_readable_file(rng: Random, sheet: Sheet) -> bytes:
+    """A file in either form: mostly the current sheet's, where that is small and can be written, else any small one."""
+    form = one_of(rng, tuple(FORMS))
+    if can_be_written(sheet, form, MOVED_SPACES) and rng.randrange(4):
+        return dayfile.bytes_of(form, sheet, s.JUSTIFIED)
+    return files.a_small_file(rng, form)
+
+
+def damaged(rng: Random, file: bytes) -> bytes:
+    """A file with a bit the other way, often near its end or that of its mark, with a byte less or with a byte more."""
+    place = rng.randrange(len(file))
+    bit = 8 * one_of(rng, (place, max(place, len(file) - 32))) + rng.randrange(8)
+    of_mark = 8 * (len(file) - dayfile.TRAILER.size + MARK_IN_A_TRAILER)
+    return one_of(rng, (
+        files.flipped(file, bit), files.flipped(file, bit), files.flipped(file, of_mark),
+        file[:place] + file[place + 1:], file[:place] + b"\2" + file[place:],
+    ))
+
+
+def moving(rng: Random, sheet: Sheet, most: int) -> Lines:
+    """A move of a file, in order or damaged, into a buffer of about the size that it needs; or a read of that file."""
+    file = a_readable_file(rng, sheet)
+    count, form = dayfile.last_trailer(file).count, a_form(rng)
+    form = FORM_2 if form is None else form
+    if rng.randrange(3) == 0:
+        file = damaged(rng, file)
+    if rng.randrange(5) == 0:
+        file = a_readable_file(rng, sheet) + file
+    at, more = one_of(rng, (0, 0, 0, 1, 5, 29)), one_of(rng, (0, 0, 1, 7, -1, -1))
+    size = at + dayfile.distance(form if form in FORMS else FORM_2, count) + more
+    yield move(file, form, at if rng.randrange(12) else one_of(rng, FAR), size, one_of(rng, (0, 255)))
+    if rng.randrange(8) == 0:
+        yield from (read(file), "spaces")
 
 
 def looking(rng: Random, sheet: Sheet, most: int) -> Lines:
@@ -1643,24 +2111,24 @@ def saying_nothing(rng: Random, sheet: Sheet, most: int) -> Lines:
     yield short[rng.randrange(len(short))]
 
 
-MOVES: tuple[Callable[[Random, Sheet, int], Lines], ...] = (
+ACTIONS: tuple[Callable[[Random, Sheet, int], Lines], ...] = (
     (entering,) * 16 + (tanking,) * 5 + (withdrawing,) * 3 + (marking,) * 6 + (undoing,) * 2 + (redoing,)
-    + (reporting,) * 3 + (writing,) + (rereading,) + (looking,) * 4 + (zoning,) + (saying_nothing,)
+    + (reporting,) * 3 + (writing,) * 2 + (rereading,) + (moving,) + (looking,) * 4 + (zoning,) + (saying_nothing,)
 )
 BURST = (entering,) * 8 + (tanking,) * 2 + (marking, looking)
 
 
-def walk(rng: Random, session: Session, most: int, moves: int) -> Lines:
-    """That many moves at random; ids are mostly up to the most. Stretches of entries let the sheet grow."""
-    for number in range(moves):
-        choices = BURST if number % 40 < 15 else MOVES
+def walk(rng: Random, session: Session, most: int, actions: int) -> Lines:
+    """That many actions at random; ids are mostly up to the most. Stretches of entries let the sheet grow."""
+    for number in range(actions):
+        choices = BURST if number % 40 < 15 else ACTIONS
         yield from choices[rng.randrange(len(choices))](rng, session.sheet, most)
 
 
 TANKS = (tanking,) * 10 + (entering, marking, withdrawing, undoing, redoing, reporting, looking, zoning)
 
 
-def a_large_one(rng: Random, id: int, tonnage_length: int, length: int) -> str:
+def a_large_one(rng: Random, id: int, tonnage_length: int, length: int, deck: int | None) -> str:
     """The entry of a U of one depth and one breadth, but for the depth at its pointed ends, if it has some."""
     depth = one_of(rng, (1600, 1601))
     space = figures.uniform(U, tonnage_length, length, depth, 2000)
@@ -1668,15 +2136,15 @@ def a_large_one(rng: Random, id: int, tonnage_length: int, length: int) -> str:
     for end, station in zip(ends, (0, -1)):
         if end == POINTED:
             heights[station] = rng.randint(0, NEXT_TO_NO_DEPTH[m.parts_of_depth(depth)])
-    return enter(id, 0, U, PLAIN, length, heights, space.breadths, ends)
+    return enter(id, 0, U, PLAIN, length, heights, space.breadths, ends, deck)
 
 
 def tank_walk(rng: Random, session: Session) -> Lines:
     """Mostly tanks, on a sheet of large U whose thirds of the interval are mostly whole hundredths."""
     lengths = [36 * rng.randint(3, one_of(rng, (30, 120, 240))) for _ in range(one_of(rng, (1, 1, 2, 3)))]
-    yield f"open {sum(lengths)}"
+    yield opening(sum(lengths), a_vessel(rng))
     for id, length in enumerate(lengths, start=1):
-        yield a_large_one(rng, id, sum(lengths), length)
+        yield a_large_one(rng, id, sum(lengths), length, one_of(rng, (None, None, rng.randrange(100))))
     for _ in range(rng.randint(15, 40)):
         yield from TANKS[rng.randrange(len(TANKS))](rng, session.sheet, 30)
     yield from LOOK_AND_REPORT
@@ -1699,7 +2167,8 @@ def dividing(rng: Random, sheet: Sheet, most: int) -> Lines:
     heights = some(rng, m.heights_asked(kind, sheet.length, length), 0, one_of(rng, (1600, 3200)))
     breadths = some(rng, m.breadths_asked(kind, heights), 0, 9)
     measures = with_ends(rng, heights, breadths) if kind == U else (heights, breadths)
-    yield enter(new_id(rng, sheet, most), 0, kind, a_standing(rng, kind), length, *measures)
+    id, standing, deck = new_id(rng, sheet, most), a_standing(rng, kind), a_deck(rng, sheet)
+    yield enter(id, 0, kind, standing, length, *measures, deck=deck)
 
 
 DIVISIONS = (dividing,) * 10 + (withdrawing, undoing, redoing)
@@ -1708,7 +2177,7 @@ DIVISIONS = (dividing,) * 10 + (withdrawing, undoing, redoing)
 def dividing_walk(rng: Random, session: Session) -> Lines:
     """Mostly U, B and S, on sheets of all classes: roundings of all sorts, in every number of parts."""
     for _ in range(rng.randint(1, 4)):
-        yield f"open {of_any_class(rng)}"
+        yield opening(of_any_class(rng), a_vessel(rng))
         for _ in range(rng.randint(2, 8)):
             yield from DIVISIONS[rng.randrange(len(DIVISIONS))](rng, session.sheet, 30)
         yield from LOOK_AND_REPORT
@@ -1719,9 +2188,25 @@ UNDER_DECKS = (under_decking,) * 10 + (entering, tanking, withdrawing, undoing, 
 
 def under_deck_walk(rng: Random, session: Session) -> Lines:
     """Mostly U, with what is said of their ends."""
-    yield f"open {one_of(rng, (1200, 1200, 2000, 3000, 4800))}"
+    yield opening(one_of(rng, (1200, 1200, 2000, 3000, 4800)), a_vessel(rng))
     for _ in range(rng.randint(15, 40)):
         yield from UNDER_DECKS[rng.randrange(len(UNDER_DECKS))](rng, session.sheet, 30)
+    yield from LOOK_AND_REPORT
+
+
+FILES = (writing,) * 4 + (moving,) * 4 + (rereading,) * 2 + (entering, marking, withdrawing, undoing, redoing, looking)
+
+
+def file_walk(rng: Random, session: Session) -> Lines:
+    """Mostly writes, moves and reads, of a sheet of a few spaces that can be written."""
+    length = one_of(rng, (100, 1200, 2000, 4800))
+    yield opening(length, a_vessel(rng))
+    yield a_large_one(rng, 1, length, length, one_of(rng, (None, None, rng.randrange(100))))
+    for id in range(2, rng.randint(2, 6)):
+        deck = a_deck(rng, session.sheet)
+        yield one_of(rng, (room(id, 1, 1, BALLAST, deck), hatchway(id, 20, deck)))
+    for _ in range(rng.randint(10, 30)):
+        yield from FILES[rng.randrange(len(FILES))](rng, session.sheet, 9)
     yield from LOOK_AND_REPORT
 
 
@@ -1729,14 +2214,16 @@ def walks(rng: Random, session: Session) -> Lines:
     """Walks without end, each on a sheet of its own, now and then with calls on a sheet not open before it."""
     while True:
         if rng.randrange(4) == 0:
-            yield f"open {one_of(rng, (99, 150_001, *BEYOND_32))}"
+            yield opening(one_of(rng, (99, 150_001, *BEYOND_32)), a_vessel(rng))
             yield from walk(rng, session, 9, 8)
         if rng.randrange(2) == 0:
             yield from tank_walk(rng, session)
         if rng.randrange(2) == 0:
             yield from under_deck_walk(rng, session)
+        if rng.randrange(2) == 0:
+            yield from file_walk(rng, session)
         yield from dividing_walk(rng, session)
-        yield f"open {one_of(rng, TONNAGE_LENGTHS)}"
+        yield opening(one_of(rng, TONNAGE_LENGTHS), a_vessel(rng))
         yield from walk(rng, session, one_of(rng, (8, 30, 30, 300, 9_999)), rng.randint(60, 260))
         yield from LOOK_AND_REPORT
 
@@ -1759,12 +2246,15 @@ SECTIONS: tuple[Section, ...] = (
     writes, places_in_a_buffer, written_and_read, changes_after_a_read, generated_files, tank_figures, tank_refusals,
     tank_ranges, tank_sections, tanks_and_files, tanks_as_rooms, where_to_measure, pointed_figures, pointed_ends,
     pairs_of_ends, ends_said, pointed_refusals, pointed_and_changed, pointed_and_files, rounded_under_decks,
-    rounded_levels, rounded_depths, not_rounded, malformed, crowded,
+    rounded_levels, rounded_depths, not_rounded, decks, deck_refusals, decks_carried, vessels, forms_of_writes,
+    numbers_lost, in_both_forms, days_of_both_forms, moves, refused_moves, malformed, crowded,
 )
 SEEDS = range(69_107, 69_117)  # of the walks behind the sections
 CALLS_OF_A_WALK = 150
 MOST_UNSEEN = 10  # lines without a look at what they did
 FEW_SPACES = 30  # so many that they are looked at then, written and read back
+MOVED_SPACES = 8  # so many that they are moved
+MARK_IN_A_TRAILER = 6  # the place of its byte, behind distance 4 and count 2
 SMALL_FILE, LARGER_FILE = 120, 300  # bytes of a generated file; the larger it is, the fewer of them are read
 
 

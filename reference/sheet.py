@@ -3,8 +3,8 @@
 A sheet is a value that never changes: every call answers its number, its values and the sheet after it. What can be
 undone and redone is kept as whole copies of the standing spaces, one for each open change.
 Quoted sentences are the paper's, those on tanks the request T-01's, those on ends of a U T-02's, those on roundings
-T-04's. Of all the numbers of refusal that apply to a call the lowest is given; one that can't be judged (a level in an
-enclosing space that doesn't stand, say) counts as not applying.
+T-04's, those on deck and vessel numbers T-05's. Of all the numbers of refusal that apply to a call the lowest is given;
+one that can't be judged (a level in an enclosing space that doesn't stand, say) counts as not applying.
 """
 
 from dataclasses import dataclass, replace
@@ -49,6 +49,8 @@ ENDS = (INNER, UPRIGHT, POINTED)
 
 NOT_ENCLOSED = 0  # the enclosing id of a U, B, S or H
 NO_M = 0  # of every space but a U entered from offsets
+NO_DECK, NO_VESSEL = 0, 0  # '0 for none'
+DECKS = range(100)  # 'a deck number on each space (0 to 99 ...)'
 IDS = range(1, 10_000)
 NOT_MARKED, JUSTIFIED = 0, 1
 MARKS = (NOT_MARKED, JUSTIFIED)
@@ -59,7 +61,10 @@ MOST_UNDOABLE = 64
 
 @dataclass(frozen=True)
 class Space:
-    """A standing space, or a new one that is judged: what its record holds, and m, which 'the file doesn't hold'."""
+    """A standing space, or a new one that is judged: what its record holds, and m, which 'the file doesn't hold'.
+
+    'Offices ask for a deck number on each space', which a record of form 2 holds.
+    """
 
     id: int
     within: int
@@ -68,6 +73,7 @@ class Space:
     tonnage: int
     length: int
     m: int = NO_M
+    deck: int = NO_DECK
 
 
 State = tuple[Space, ...]  # the standing spaces in order of entry
@@ -75,13 +81,17 @@ State = tuple[Space, ...]  # the standing spaces in order of entry
 
 @dataclass(frozen=True)
 class Sheet:
-    """The standing spaces; those before each undoable change, the latest last; those that redo brings back likewise."""
+    """The standing spaces; those before each undoable change, the latest last; those that redo brings back likewise.
+
+    'The vessel number is given at opening', and no call changes it; that of a sheet not open is 0.
+    """
 
     is_open: bool = False
     length: int = 0
     spaces: State = ()
     earlier: tuple[State, ...] = ()
     later: tuple[State, ...] = ()
+    vessel: int = NO_VESSEL
 
 
 CLOSED = Sheet()  # 'a sheet not open'
@@ -204,6 +214,11 @@ def out_of_range(
 ) -> bool:
     """2: 'a kind, measure, standing ... outside its range'."""
     return standing not in STANDINGS or m.out_of_range(kind, sheet.length, length, heights, breadths)
+
+
+def deck_out_of_range(deck: int) -> bool:
+    """2: 'for a deck above 99 on entry', of whatever kind; '17 for such a deck in a file'."""
+    return deck not in DECKS
 
 
 def end_not_said(kind: int, fore: int, aft: int) -> bool:
@@ -354,6 +369,7 @@ def numbers_of_entry(
         OUT_OF_RANGE: (
             out_of_range(sheet, new.kind, new.standing, new.length, heights, breadths)
             or end_not_said(new.kind, fore, aft)
+            or deck_out_of_range(new.deck)
         ),
         WRONG_NUMBER: wrong_number(sheet, new.kind, new.length, heights, breadths),
         POINTED_WITH_AREA: pointed_with_area(sheet, new, heights, breadths, fore, aft),
@@ -367,7 +383,11 @@ def numbers_of_tank(
     spaces = sheet.spaces
     return applying({
         SHEET_NOT_OPEN: not sheet.is_open,
-        OUT_OF_RANGE: new.standing not in STANDINGS or m.tank_out_of_range(new.length, fore, depths, breadths),
+        OUT_OF_RANGE: (
+            new.standing not in STANDINGS
+            or m.tank_out_of_range(new.length, fore, depths, breadths)
+            or deck_out_of_range(new.deck)
+        ),
         WRONG_NUMBER: tank_wrong_number(sheet, new.within, new.length, fore, depths, breadths),
         NEW_ID: new_id_refused(spaces, new.id),
         NOT_STANDING: enclosing_not_standing(spaces, new),
@@ -424,11 +444,14 @@ def numbers_of_report(sheet: Sheet, justified: int) -> set[int]:
 
 # The calls
 
-def open_sheet(length: int) -> tuple[int, Sheet]:
-    """'A sheet is opened with the tonnage length'; 'a refused open ... hands back a sheet not open'."""
+def open_sheet(length: int, vessel: int = NO_VESSEL) -> tuple[int, Sheet]:
+    """'A sheet is opened with the tonnage length'; 'a refused open ... hands back a sheet not open'.
+
+    'The vessel number is given at opening'; any that can be given is one.
+    """
     if length not in m.TONNAGE_LENGTHS:
         return OUT_OF_RANGE, CLOSED
-    return ACCEPTED, Sheet(is_open=True, length=length)
+    return ACCEPTED, Sheet(is_open=True, length=length, vessel=vessel)
 
 
 def changed(sheet: Sheet, spaces: State) -> Sheet:
@@ -438,24 +461,25 @@ def changed(sheet: Sheet, spaces: State) -> Sheet:
 
 def new_space(
     sheet: Sheet, id: int, within: int, kind: int, standing: int, length: int, heights: Sequence[int],
-    breadths: Sequence[int],
+    breadths: Sequence[int], deck: int = NO_DECK,
 ) -> Space:
     """A space as it would stand. One that can't be measured has tonnage 0, with which rooms pass nothing, and no m."""
     number, tonnage = m.measure(kind, sheet.length, length, heights, breadths)
     own_m = m.parts_of_depth(m.middle_depth(heights)) if kind == U and not number else NO_M
-    return Space(id, within if kind == R else NOT_ENCLOSED, kind, standing, tonnage, length, own_m)
+    return Space(id, within if kind == R else NOT_ENCLOSED, kind, standing, tonnage, length, own_m, deck)
 
 
 def enter(
     sheet: Sheet, id: int, within: int, kind: int, standing: int, length: int, heights: Sequence[int],
-    breadths: Sequence[int], fore: int = NOT_SAID, aft: int = NOT_SAID,
+    breadths: Sequence[int], fore: int = NOT_SAID, aft: int = NOT_SAID, deck: int = NO_DECK,
 ) -> tuple[int, int, tuple[int, ...], Sheet]:
     """A new space comes last in order, whatever stood before.
 
-    The enclosing id is read only for a room, and what is said of the ends only for a U. 'Each U, B and S passes on the
-    rounding of its length, a U also that of every station's depth'; one that is refused passes on nothing.
+    The enclosing id is read only for a room, what is said of the ends only for a U, the deck for every kind. 'Each U, B
+    and S passes on the rounding of its length, a U also that of every station's depth'; one that is refused passes on
+    nothing.
     """
-    new = new_space(sheet, id, within, kind, standing, length, heights, breadths)
+    new = new_space(sheet, id, within, kind, standing, length, heights, breadths, deck)
     number = lowest(numbers_of_entry(sheet, new, heights, breadths, fore, aft))
     if number:
         return number, *m.NOTHING_ROUNDED, sheet
@@ -464,7 +488,7 @@ def enter(
 
 def new_tank(
     sheet: Sheet, id: int, within: int, standing: int, length: int, fore: int, depths: Sequence[int],
-    breadths: Sequence[int],
+    breadths: Sequence[int], deck: int = NO_DECK,
 ) -> Space:
     """'The result is a room directly inside that U.' One that can't be measured has tonnage 0."""
     under_deck = measuring_under_deck(sheet.spaces, within, length, fore)
@@ -477,15 +501,15 @@ def new_tank(
         tonnage = m.tonnage(m.volume_of_tank(
             sheet.length, under_deck.length, under_deck.m, length, fore, depths, breadths
         ))
-    return Space(id, within, R, standing, tonnage, length)
+    return Space(id, within, R, standing, tonnage, length, deck=deck)
 
 
 def enter_tank(
     sheet: Sheet, id: int, within: int, standing: int, length: int, fore: int, depths: Sequence[int],
-    breadths: Sequence[int],
+    breadths: Sequence[int], deck: int = NO_DECK,
 ) -> tuple[int, Sheet]:
     """A tank that follows the hull, entered as any room is; it passes on no rounding."""
-    new = new_tank(sheet, id, within, standing, length, fore, depths, breadths)
+    new = new_tank(sheet, id, within, standing, length, fore, depths, breadths, deck)
     number = lowest(numbers_of_tank(sheet, new, fore, depths, breadths))
     return number, sheet if number else changed(sheet, (*sheet.spaces, new))
 
@@ -537,7 +561,10 @@ def report(sheet: Sheet, justified: int) -> tuple[int, int, int, Sheet]:
 # Recorded spaces
 
 def recorded(spaces: Iterable[Space]) -> State:
-    """'All that their records hold': m is gone. 'A U that came from a file takes no tank until it is entered anew.'"""
+    """'All that their records hold', a deck too: m is gone.
+
+    'A U that came from a file takes no tank until it is entered anew.'
+    """
     return tuple(replace(space, m=NO_M) for space in spaces)
 
 
@@ -550,9 +577,9 @@ def enter_recorded(sheet: Sheet, space: Space) -> tuple[int, Sheet]:
     return number, sheet if number else replace(sheet, spaces=(*sheet.spaces, *recorded([space])))
 
 
-def resume(length: int, spaces: Iterable[Space]) -> tuple[int, Sheet]:
+def resume(length: int, spaces: Iterable[Space], vessel: int = NO_VESSEL) -> tuple[int, Sheet]:
     """The sheet of recorded spaces, and 0; or the position, from 1, of the first refused, and a sheet not open."""
-    sheet = Sheet(is_open=True, length=length)
+    sheet = Sheet(is_open=True, length=length, vessel=vessel)
     for position, space in enumerate(spaces, start=1):
         number, sheet = enter_recorded(sheet, space)
         if number:

@@ -9,10 +9,12 @@ between them and a space at an end of the line an empty word beside it.
 A line that is no call is answered by '?' and a remark, and changes nothing. It is judged in this order, and the first
 remark that fits is given:
     ? unknown call              the first word is no call (an empty one neither)
-    ? wrong number of words     the call has another number of words (an entry has those for both its ends, or neither)
+    ? wrong number of words     the call has another number of words (some may be left out; how many words there are
+                                tells which ones: behind an entry's breadths one is its deck, two are its ends, three
+                                its ends and its deck)
 then the words behind the call from left to right, each
     ? not a number              a number that isn't one or more of the digits 0 to 9
-    ? number too large          a number above 2^64-1 (zeros in front are no matter)
+    ? number too large          a number above 2^64-1, a vessel number above 2^32-1 (zeros in front are no matter)
     ? list too long             a list of more than 1,024 numbers, counted by its commas, whatever stands between them;
                                 then each number of a list, from left to right, as above; '-' is the empty list
     ? buffer too large          the size of a buffer, where it is a number, above 65,536
@@ -29,6 +31,7 @@ import sys
 from typing import Any, Callable, Iterable
 
 from reference import dayfile, measure as m, sheet as s
+from reference.dayfile import FORM_1
 from reference.sheet import Sheet, Space
 
 UNKNOWN_CALL = "? unknown call"
@@ -53,16 +56,18 @@ MOST_DIGITS = 2 * GREATEST_SIZE  # two digits a byte
 HEX_DIGITS = frozenset("0123456789abcdef")
 GREATEST_NUMBER = 2**64 - 1
 GREATEST_ID = 2**16 - 1
-GREATEST_CODE = 2**8 - 1  # of a kind, a standing, an end and a justified mark
+GREATEST_CODE = 2**8 - 1  # of a kind, a standing, an end, a deck, a justified mark and a form
 GREATEST_MEASURE = 2**32 - 1
 GREATEST_BYTE = 2**8 - 1
+GREATEST_VESSEL = 2**32 - 1
 
 
 class NoCall(Exception):
     """A line that is no call; its remark is the argument."""
 
 
-# Arguments. A value above the greatest of its type is handed on as that greatest value, which is out of range too.
+# Arguments. A value above the greatest of its type is handed on as that greatest value, which is out of range too; but
+# 'only a vessel number has no value outside its range'.
 
 def number(word: str) -> int:
     """One or more digits, with a value up to 2^64-1."""
@@ -80,13 +85,21 @@ def an_id(word: str) -> int:
 
 
 def a_code(word: str) -> int:
-    """A kind, a standing, an end or a justified mark."""
+    """A kind, a standing, an end, a deck, a justified mark or a form."""
     return min(number(word), GREATEST_CODE)
 
 
 def a_measure(word: str) -> int:
     """A length, depth, height or breadth, or a tank's fore end."""
     return min(number(word), GREATEST_MEASURE)
+
+
+def a_vessel(word: str) -> int:
+    """A vessel number: 'a number over 4,294,967,295 makes the line no call'."""
+    vessel = number(word)
+    if vessel > GREATEST_VESSEL:
+        raise NoCall(NUMBER_TOO_LARGE)
+    return vessel
 
 
 def measures(word: str) -> list[int]:
@@ -133,8 +146,8 @@ Reader = Callable[[str], Any]  # of a word
 
 
 def of_space(space: Space) -> str:
-    """ID:WITHIN:KIND:STANDING:TONNAGE:LENGTH:M."""
-    values = (space.id, space.within, space.kind, space.standing, space.tonnage, space.length, space.m)
+    """ID:WITHIN:KIND:STANDING:TONNAGE:LENGTH:M:DECK."""
+    values = (space.id, space.within, space.kind, space.standing, space.tonnage, space.length, space.m, space.deck)
     return ":".join(map(str, values))
 
 
@@ -148,15 +161,16 @@ def in_a_list(numbers: Iterable[int]) -> str:
     return ",".join(map(str, numbers)) or "-"
 
 
-def enter(sheet: Sheet, *entry: Any) -> Answer:
+def enter(sheet: Sheet, *entry: Any, **further: int) -> Answer:
     """N ROUNDING DEPTHS, with one number a station of a U; refused, N 0 -."""
-    refusal, rounding, depths, after = s.enter(sheet, *entry)
+    refusal, rounding, depths, after = s.enter(sheet, *entry, **further)
     return refusal, rounding, in_a_list(depths), after
 
 
 def spaces(sheet: Sheet) -> Answer:
-    """0 OPEN L COUNT SPACE SPACE ..."""
-    return s.ACCEPTED, int(sheet.is_open), sheet.length, len(sheet.spaces), *map(of_space, sheet.spaces), sheet
+    """0 OPEN L COUNT VESSEL SPACE SPACE ..."""
+    of_sheet = int(sheet.is_open), sheet.length, len(sheet.spaces), sheet.vessel
+    return s.ACCEPTED, *of_sheet, *map(of_space, sheet.spaces), sheet
 
 
 def zones(sheet: Sheet, tonnage_length: int, under_deck_length: int, length: int, fore: int) -> Answer:
@@ -165,20 +179,26 @@ def zones(sheet: Sheet, tonnage_length: int, under_deck_length: int, length: int
     return refusal, parts, in_a_list(stations), sheet
 
 
-def writef(sheet: Sheet, justified: int, at: int, size: int, fill: int) -> Answer:
+def writef(sheet: Sheet, justified: int, at: int, size: int, fill: int, form: int = FORM_1) -> Answer:
     """N WRITTEN BUFFER, of a buffer with the same byte all through."""
-    refusal, written, buffer, after = dayfile.write(sheet, justified, bytes([fill]) * size, at)
+    refusal, written, buffer, after = dayfile.write(sheet, justified, bytes([fill]) * size, at, form)
     return refusal, written, in_hex(buffer), after
 
 
-def write(sheet: Sheet, justified: int, at: int, size: int) -> Answer:
+def write(sheet: Sheet, justified: int, at: int, size: int, form: int = FORM_1) -> Answer:
     """N WRITTEN BUFFER, of a buffer of zeros."""
-    return writef(sheet, justified, at, size, 0)
+    return writef(sheet, justified, at, size, 0, form)
+
+
+def move(sheet: Sheet, file: bytes, form: int, at: int, size: int, fill: int) -> Answer:
+    """N WRITTEN POSITION BUFFER, of a buffer with the same byte all through; the current sheet is no matter."""
+    refusal, written, position, buffer = dayfile.move(file, form, bytes([fill]) * size, at)
+    return refusal, written, position, in_hex(buffer), sheet
 
 
 CALLS: dict[str, tuple[tuple[Reader, ...], Callable[..., Answer]]] = {
-    "open": ((a_measure,), lambda sheet, length: s.open_sheet(length)),
-    "enter": ((an_id, an_id, a_code, a_code, a_measure, measures, measures, a_code, a_code), enter),
+    "open": ((a_measure,), lambda sheet, length, **further: s.open_sheet(length, **further)),
+    "enter": ((an_id, an_id, a_code, a_code, a_measure, measures, measures), enter),
     "tank": ((an_id, an_id, a_code, a_measure, a_measure, measures, measures), s.enter_tank),
     "zones": ((a_measure, a_measure, a_measure, a_measure), zones),
     "withdraw": ((an_id,), s.withdraw),
@@ -191,25 +211,49 @@ CALLS: dict[str, tuple[tuple[Reader, ...], Callable[..., Answer]]] = {
     "writef": ((a_code, number, a_size, a_byte), writef),
     "read": ((a_file,), lambda sheet, file: dayfile.read(file)),
     "before": ((number, a_file), lambda sheet, start, file: dayfile.read_before(file, start)),
+    "move": ((a_file, a_code, number, a_size, a_byte), move),
     "spaces": ((), spaces),
 }
-MAY_BE_LEFT_OUT = {"enter": 2}  # words at the end of a line: FORE AFT, then both 0
+# Words that a line may have behind those of its call: in which groups, told by how many there are, and how each is
+# read. Where one is left out, the call knows what to take for it: 0, and of forms the first.
+MAY_FOLLOW: dict[str, tuple[tuple[str, ...], ...]] = {
+    "open": (("vessel",),),
+    "enter": (("deck",), ("fore", "aft"), ("fore", "aft", "deck")),
+    "tank": (("deck",),),
+    "write": (("form",),),
+    "writef": (("form",),),
+}
+FURTHER: dict[str, Reader] = {"vessel": a_vessel, "fore": a_code, "aft": a_code, "deck": a_code, "form": a_code}
+
+
+def further_words(words: list[str]) -> tuple[str, ...]:
+    """The names of the words that a line has behind those that its call always has; none where they are no group."""
+    name, *behind = words
+    count = len(behind) - len(CALLS[name][0]) if name in CALLS else 0
+    return next((group for group in MAY_FOLLOW.get(name, ()) if len(group) == count), ())
 
 
 # Lines, of this protocol and of that of figures.py
 
 
-def arguments(readers: dict[str, tuple[Reader, ...]], words: list[str], may_be_left_out: int = 0) -> list[Any]:
-    """What the words of a line hand to its call, where each call's words are to be read so.
-
-    So many of the last ones may be left out, all of them or none; the call knows what to take for them.
-    """
+def arguments(readers: dict[str, tuple[Reader, ...]], words: list[str], *further: Reader) -> list[Any]:
+    """What the words of a line hand to its call, where each call's words are to be read so, and then further ones."""
     name, *behind = words
     if name not in readers:
         raise NoCall(UNKNOWN_CALL)
-    if len(readers[name]) - len(behind) not in (0, may_be_left_out):
+    asked = (*readers[name], *further)
+    if len(asked) != len(behind):
         raise NoCall(WRONG_NUMBER_OF_WORDS)
-    return [read(word) for read, word in zip(readers[name], behind)]
+    return [read(word) for read, word in zip(asked, behind)]
+
+
+def handed_on(words: list[str]) -> tuple[list[Any], dict[str, Any]]:
+    """What the words of a line hand to its call, and by their names those that could have been left out."""
+    readers = {name: of_call for name, (of_call, _) in CALLS.items()}
+    further = further_words(words)
+    given = arguments(readers, words, *(FURTHER[name] for name in further))
+    always = len(given) - len(further)
+    return given[:always], dict(zip(further, given[always:]))
 
 
 def answer_to(line: str, call: Callable[[list[str]], str]) -> str | None:
@@ -242,9 +286,8 @@ class Session:
 
     def call(self, words: list[str]) -> str:
         """Makes the call of a line's words; where they are none, NoCall is raised and nothing is changed."""
-        readers = {name: of_call for name, (of_call, _) in CALLS.items()}
-        given = arguments(readers, words, MAY_BE_LEFT_OUT.get(words[0], 0))
-        *values, self.sheet = CALLS[words[0]][1](self.sheet, *given)
+        given, further = handed_on(words)
+        *values, self.sheet = CALLS[words[0]][1](self.sheet, *given, **further)
         return " ".join(map(str, values))
 
     def answers(self, text: str) -> str:

@@ -24,6 +24,7 @@ CHANGES = (*ENTRIES, "withdraw", "mark")
 LOOKS = ("counts", "spaces", "report")
 WHERE = ("zones",)
 WRITES = ("write", "writef")
+MOVES = ("move",)  # it 'takes no sheet', and the current one stays
 
 
 @dataclass(frozen=True)
@@ -52,18 +53,24 @@ class Step:
 
     @cached_property
     def arguments(self) -> list[Any]:
-        """The arguments of a call as the library gets them."""
-        return [read(word) for read, word in zip(survey.CALLS[self.call][0], self.words[1:])]
+        """The arguments of a call as the library gets them, but for those that may be left out."""
+        return survey.handed_on(self.words)[0]
+
+    @cached_property
+    def further(self) -> dict[str, int]:
+        """Those that may be left out, by their names, where they aren't."""
+        return survey.handed_on(self.words)[1]
 
     @cached_property
     def new(self) -> Space:
         """The space that an entry or a tank hands in; nothing of what an entry says of its ends is in it."""
-        return (s.new_tank if self.call == "tank" else s.new_space)(self.before, *self.arguments[:7])
+        made = s.new_tank if self.call == "tank" else s.new_space
+        return made(self.before, *self.arguments, self.further.get("deck", 0))
 
     @property
     def ends(self) -> tuple[int, ...]:
         """What an entry says of its ends, nothing where they are left out."""
-        return tuple(self.arguments[7:])
+        return tuple(self.further[end] for end in ("fore", "aft") if end in self.further)
 
     @cached_property
     def rounding(self) -> int:
@@ -81,7 +88,7 @@ class Step:
         """All that apply to an entry or a tank."""
         if self.call == "tank":
             return s.numbers_of_tank(self.before, self.new, *self.arguments[4:])
-        return s.numbers_of_entry(self.before, self.new, *self.arguments[5:])
+        return s.numbers_of_entry(self.before, self.new, *self.arguments[5:], *self.ends)
 
 
 def steps(text: str) -> list[Step]:
@@ -156,8 +163,8 @@ class FiguresOfThePaper(OfCalls):
         self.accepted(*self.WHOLE)
         self.asks("report 0", "0 12439 12119")
         self.asks("report 1", "0 12439 12119")
-        self.asks("spaces", "0 1 4800 5 1:0:1:0:11521:4800:4 2:0:3:0:1280:1600:0 3:1:5:2:400:1000:0 "
-                            "4:2:5:3:320:800:0 5:0:4:0:100:500:0")
+        self.asks("spaces", "0 1 4800 5 0 1:0:1:0:11521:4800:4:0 2:0:3:0:1280:1600:0:0 3:1:5:2:400:1000:0:0 "
+                            "4:2:5:3:320:800:0:0 5:0:4:0:100:500:0:0")
         self.asks("counts", "0 5 0")
 
     def test_whole_sheet_by_calls(self) -> None:
@@ -205,7 +212,7 @@ class FiguresOfThePaper(OfCalls):
         self.accepted("open 1200", *(hatchway(id, id) for id in range(1, 66)))
         self.asks("counts", "0 64 0")
         self.assertEqual(self.given(*["undo"] * 65), ["0"] * 64 + ["12"])
-        self.asks("spaces", "0 1 1200 1 1:0:4:0:1:1:0")
+        self.asks("spaces", "0 1 1200 1 0 1:0:4:0:1:1:0:0")
         self.asks("counts", "0 0 64")
         self.assertEqual(self.given(*["redo"] * 65), ["0"] * 64 + ["12"])
         self.assertEqual(self.ids(), list(range(1, 66)))
@@ -244,7 +251,7 @@ class ReadingsOfEntries(OfCalls):
 
     def test_greatest_measures_of_hatchways_and_rooms(self) -> None:
         self.accepted("open 1200", enter(1, 0, H, 0, 150_000, [20_000], [30_000]))
-        self.asks("spaces", "0 1 1200 1 1:0:4:0:90000000:150000:0")
+        self.asks("spaces", "0 1 1200 1 0 1:0:4:0:90000000:150000:0:0")
         self.refused(2, enter(2, 0, H, 0, 1, [20_001], [1]), enter(2, 0, H, 0, 1, [1], [30_001]))
         self.refused(2, enter(2, 0, H, 0, 1, [0], [1]), enter(2, 0, H, 0, 1, [1], [0]), enter(2, 0, H, 0, 0, [1], [1]))
 
@@ -372,10 +379,10 @@ class ReadingsOfEntries(OfCalls):
         for length in (0, 99, 150_001, 2**32 - 1, 2**32 + 1200, 2**64 - 1):
             self.accepted("open 1200", hatchway(1, 5))
             self.asks(f"open {length}", "2")
-            self.assertEqual(self.given("spaces", "counts", "report 0"), ["0 0 0 0", "0 0 0", "1 0 0"])
+            self.assertEqual(self.given("spaces", "counts", "report 0"), ["0 0 0 0 0", "0 0 0", "1 0 0"])
         for length in (100, 150_000):
             self.asks(f"open {length}", "0")
-            self.asks("spaces", f"0 1 {length} 0")
+            self.asks("spaces", f"0 1 {length} 0 0")
 
     def test_a_sheet_not_open(self) -> None:
         for first in ("", "open 99"):
@@ -384,7 +391,7 @@ class ReadingsOfEntries(OfCalls):
                 1, hatchway(1, 5), enter(0, 0, 9, 9, 0, [], []), withdraw(1), withdraw(0), mark(1, 0), mark(1, 4),
                 "undo", "redo", "report 0", "report 1", "report 2",
             )
-            self.assertEqual(self.given("spaces", "counts"), ["0 0 0 0", "0 0 0"])
+            self.assertEqual(self.given("spaces", "counts"), ["0 0 0 0 0", "0 0 0"])
         self.assertEqual(self.session.sheet, s.CLOSED)
 
     def test_several_under_deck_parts_and_levels(self) -> None:
@@ -535,7 +542,7 @@ class ReadingsOfTanks(OfCalls):
     def test_the_whole_box(self) -> None:
         self.accepted("open 4800", divided(1, U, 4800, 4800, 1200, 2000))
         self.accepted(tank(2, 1, BALLAST, 4800, 0, [1200] * 7, [2000] * 35))
-        self.asks("spaces", "0 1 4800 2 1:0:1:0:11521:4800:4 2:1:5:2:11521:4800:0")
+        self.asks("spaces", "0 1 4800 2 0 1:0:1:0:11521:4800:4:0 2:1:5:2:11521:4800:0:0")
         self.refused(9, room(3, 1, 1))
         self.accepted(room(3, 1))
         self.refused(14, "report 0")
@@ -703,10 +710,10 @@ class ReadingsOfTanks(OfCalls):
 
     def test_a_file_holds_no_m(self) -> None:
         self.accepted(*a_thousand(), tank(4, 1, BALLAST, 300, 0, [600] * 3, [300] * 15))
-        file = dayfile.bytes_of(self.session.sheet, 0)
+        file = dayfile.bytes_of(1, self.session.sheet, 0)
         own = tank(5, 1, 0, 300, 300, *self.RIGHT)
         self.accepted(own, "undo", scripts.read(file))
-        self.assertEqual(dayfile.bytes_of(self.session.sheet, 0), file)
+        self.assertEqual(dayfile.bytes_of(1, self.session.sheet, 0), file)
         self.assertEqual([space.m for space in self.session.sheet.spaces], [0, 0, 0, 0])
         self.refused(29, own)
         self.accepted(withdraw(4), withdraw(1))
@@ -862,14 +869,15 @@ class ReadingsOfEnds(OfCalls):
                 self.refused(2, enter(1, 0, U, 0, 600, *self.WITH_AREA, ends))
 
     def test_left_out(self) -> None:
-        """Then both are 0, so a U must say and others needn't; one word alone is no call."""
+        """Then both are 0, so a U must say and others needn't; one word alone is a deck, four are no call."""
         self.accepted("open 1200", half(1, 1200, 1200, (UPRIGHT, INNER)))
         self.refused(2, half(2, 0, 0, ()), half(2, 1200, 1200, ()), half(2, 0, 0, (0, 0)))
         for kind, *measures in self.OTHERS:
-            self.tonnage(enter(7, 1, kind, 0, *measures, ()))
-            self.asks(enter(7, 1, kind, 0, *measures, (UPRIGHT,)), "? wrong number of words")
-        for ends in ((0,), (UPRIGHT,), (POINTED,), (UPRIGHT,) * 3):
-            self.asks(half(2, 0, 0, ends), "? wrong number of words")
+            said = self.tonnage(enter(7, 1, kind, 0, *measures, ()))
+            self.assertEqual(self.tonnage(enter(7, 1, kind, 0, *measures, (UPRIGHT,))), said)
+            self.asks(enter(7, 1, kind, 0, *measures, (UPRIGHT,) * 4), "? wrong number of words")
+        self.refused(2, *(half(2, 0, 0, (deck,)) for deck in (0, UPRIGHT, POINTED)))
+        self.asks(half(2, 0, 0, (UPRIGHT,) * 4), "? wrong number of words")
         self.assertEqual(self.ids(), [1])
         self.accepted(half(2, 0, 0, (UPRIGHT, UPRIGHT)))
 
@@ -957,17 +965,17 @@ class ReadingsOfEnds(OfCalls):
         for ends in product((1, 2, 3), repeat=2):
             self.accepted("open 1200", half(1, 0, 5, ends), half(2, 0, 1200, (POINTED, UPRIGHT)))
             self.assertEqual(self.session.sheet.spaces, spaces)
-            files.add(dayfile.bytes_of(self.session.sheet, 0))
+            files.add(dayfile.bytes_of(1, self.session.sheet, 0))
         [file] = files
         self.assertEqual(len(file), 60)
-        self.asks(scripts.read(file), "0 0 0 0")
+        self.asks(scripts.read(file), "0 0 0 0 1")
         self.asks("report 0", "0 540 540")
-        self.assertEqual(dayfile.bytes_of(self.session.sheet, 0), file)
+        self.assertEqual(dayfile.bytes_of(1, self.session.sheet, 0), file)
         self.accepted(withdraw(1))
         self.refused(19, half(1, 1200, 0, (POINTED, POINTED)))
         self.accepted(half(1, 0, 0, (POINTED, POINTED)))
         own = tank_of_a_thousand(3, 1, 300, 0)
-        self.asks(f"{own} 2 2", "? wrong number of words")
+        self.asks(f"{own} 2 2", "? wrong number of words")  # one alone is a deck
         self.accepted(own)
 
 
@@ -1071,7 +1079,7 @@ class ReadingsOfRoundings(OfCalls):
             (self.entry(*self.UNDER_DECK), "0 2 1,-2,-5"), (tank(2, 9, 0, 301, 1, [1211, 1598, 1205], [1] * 15), "0"),
             (tank(3, 9, 0, 301, 301, [1211, 1598, 1205], [1] * 15), "9"), ("undo", "0"), ("undo", "0"), ("redo", "0"),
             ("redo", "0"), (withdraw(2), "0"), (withdraw(9), "0"), ("undo", "0"), (mark(9, 0), "0"),
-            (mark(9, 1), "6"), ("counts", "0 4 0"), ("spaces", "0 1 1300 1 9:0:1:0:8:601:4"),
+            (mark(9, 1), "6"), ("counts", "0 4 0"), ("spaces", "0 1 1300 1 0 9:0:1:0:8:601:4:0"),
         ):
             self.asks(line, answer)
 
@@ -1084,9 +1092,171 @@ class ReadingsOfRoundings(OfCalls):
     def test_a_sheet_that_was_read(self) -> None:
         """Nothing of a rounding is kept; a space entered anew passes on its own."""
         self.accepted("open 1300", divided(1, U, 1300, 699, 1200, 500), self.entry(*self.UNDER_DECK))
-        self.asks(scripts.read(dayfile.bytes_of(self.session.sheet, 0)), "0 0 0 0")
+        self.asks(scripts.read(dayfile.bytes_of(1, self.session.sheet, 0)), "0 0 0 0 1")
         self.asks(withdraw(9), "0")
         self.asks(self.entry(*self.UNDER_DECK), "0 2 1,-2,-5")
+
+
+class ReadingsOfDecks(OfCalls):
+    """'A deck number on each space (0 to 99, 0 for none)': 'undo and redo carry the deck number'."""
+
+    RIGHT = ([9] * 3, [9] * 15)  # of a tank of 300 in U 1
+    OTHERS = (
+        (B, 1200, [50] * 7, [50] * 7), (S, 300, [50] * 3, [50] * 3), (H, 10, [500], [500]), (R, 10, [500], [500])
+    )
+
+    def decks(self) -> list[int]:
+        """The decks of the standing spaces in order of entry."""
+        return [space.deck for space in self.session.sheet.spaces]
+
+    def of_every_kind(self, deck: int) -> list[str]:
+        """An entry of each kind and a tank, with the id 2 and this deck."""
+        entries = [enter(2, 1, kind, 0, *measures, deck=deck) for kind, *measures in self.OTHERS]
+        return [half(2, 0, 0, (POINTED, POINTED)) + f" {deck}", *entries, tank(2, 1, 0, 300, 0, *self.RIGHT, deck)]
+
+    def test_ranges(self) -> None:
+        """Of every kind and of a tank; above its type it never wraps."""
+        self.accepted("open 1200", divided(1, U, 1200, 600, 1200, 500))
+        for deck in (0, 1, 98, 99):
+            for line in self.of_every_kind(deck):
+                self.accepted(line)
+                self.assertEqual(self.decks(), [0, deck])
+                self.accepted("undo")
+        for deck in (100, 101, 255, 256, 257, 256 + 99, 2**16, 2**32 + 1, 2**64 - 1):
+            self.refused(2, *self.of_every_kind(deck))
+
+    def test_left_out(self) -> None:
+        """Then 0; with the ends left out one word is the deck, with them the third."""
+        self.accepted("open 1200", divided(1, U, 1200, 600, 1200, 500), tank(2, 1, 0, 300, 0, *self.RIGHT))
+        self.accepted(*(enter(10 + kind, 1, kind, 0, *measures, ()) for kind, *measures in self.OTHERS))
+        self.accepted(*(enter(20 + kind, 1, kind, 0, *measures, (), 7) for kind, *measures in self.OTHERS))
+        self.accepted(*(enter(30 + kind, 1, kind, 0, *measures, (9, 0)) for kind, *measures in self.OTHERS))
+        self.accepted(*(enter(40 + kind, 1, kind, 0, *measures, (9, 0), 8) for kind, *measures in self.OTHERS))
+        self.assertEqual(self.decks(), [0, 0, *[0] * 4, *[7] * 4, *[0] * 4, *[8] * 4])
+        self.refused(2, half(9, 0, 0, (7,)), half(9, 0, 0, (2, 0, 7)), half(9, 0, 0, (2, 2, 100)))
+        self.accepted(half(9, 0, 0, (2, 2, 7)))
+        self.assertEqual(self.decks()[-1], 7)
+
+    def test_beside_every_other_number(self) -> None:
+        """1 goes before it, 3 to 10, 19 and 29 come behind; a deck in range leaves them as they are."""
+        self.refused(1, *self.of_every_kind(100), *self.of_every_kind(99))
+        self.accepted(*read_and_entered_anew(), hatchway(4, 50), *chain(1, 11, 7, 1), mark(14, DEDUCTED))
+        lines = {
+            3: enter(500, 0, S, 0, 300, [9] * 3, [9] * 4), 4: room(4, 1, 1), 5: room(500, 77, 1), 6: room(500, 4, 1),
+            7: room(500, 17), 8: room(500, 14, 0, EXEMPT), 9: room(500, 1, 9999),
+            29: tank(500, 2, 0, 300, 0, *self.RIGHT),
+        }
+        of_tanks = {
+            3: tank(500, 1, 0, 300, 0, [9] * 3, [9] * 14), 4: tank(4, 1, 0, 300, 0, *self.RIGHT),
+            5: tank(500, 77, 0, 300, 0, *self.RIGHT), 6: tank(500, 3, 0, 300, 0, *self.RIGHT),
+            9: tank(500, 1, 0, 300, 301, *self.RIGHT),
+        }
+        for number, line in (*lines.items(), *of_tanks.items()):
+            self.refused(number, line, f"{line} 0", f"{line} 99")
+            self.refused(2, f"{line} 100", f"{line} 256")
+            self.assertEqual((self.numbers(f"{line} 99"), self.numbers(f"{line} 100")), ({number}, {2, number}))
+        self.refused(2, room(500, 1, 1, 4, 99), room(500, 1, 1, 4, 100))
+        self.accepted(*(room(id, 11) for id in range(1000, 1000 + s.PLACES - len(self.session.sheet.spaces))))
+        self.refused(10, room(500, 1, 1, PLAIN, 99))
+        self.refused(2, room(500, 1, 1, PLAIN, 100))
+        self.accepted("open 1200")
+        pointed = by_stations(1, 600, [(99, [9] * 5)] * 3, (POINTED, POINTED))
+        self.refused(19, pointed, f"{pointed} 99")
+        self.refused(2, f"{pointed} 100")
+
+    def test_a_refused_one_changes_nothing(self) -> None:
+        self.accepted(*a_thousand(), hatchway(4, 5, 3), "undo")
+        self.refused(2, *self.of_every_kind(100), hatchway(4, 5, 100))
+        self.accepted("redo")
+        self.assertEqual(self.decks(), [0, 0, 0, 3])
+
+    def test_changes_carry_the_deck(self) -> None:
+        """A mark, a withdrawal undone, an entry made again; a tank's too."""
+        self.accepted("open 1200", divided(1, U, 1200, 600, 1200, 500, deck=1), room(2, 1, 20, PLAIN, 99))
+        self.accepted(tank(3, 1, 0, 300, 0, *self.RIGHT, 42), hatchway(4, 20, 7))
+        for lines in (
+            [mark(2, BALLAST)], [mark(3, DEDUCTED), "undo"], [withdraw(2), "undo"], [withdraw(3), "undo"],
+            [mark(1, PLAIN), "undo", "redo"], ["undo"] * 4 + ["redo"] * 4,
+        ):
+            self.accepted(*lines)
+            self.assertEqual(self.decks(), [1, 99, 42, 7])
+        self.accepted(withdraw(2), withdraw(4), hatchway(4, 20, 8), room(2, 1, 20))
+        self.assertEqual(self.decks(), [1, 42, 8, 0])
+        self.accepted(*["undo"] * 4)
+        self.assertEqual(self.decks(), [1, 99, 42, 7])
+        self.accepted(*["redo"] * 4)
+        self.assertEqual(self.decks(), [1, 42, 8, 0])
+
+    def test_nothing_else_looks_at_it(self) -> None:
+        """Tonnages, roundings and reports are as without."""
+        for deck in (None, 0, 99):
+            self.accepted("open 4800")
+            self.asks(divided(1, U, 4800, 4800, 1200, 2000, deck=deck), "0 6 0,0,0,0,0,0,0")
+            self.asks(divided(2, S, 4800, 1600, 800, 1000, deck=deck), "0 2 -")
+            self.accepted(enter(3, 1, R, BALLAST, 1000, [400], [1000], deck=deck))
+            self.accepted(enter(4, 2, R, DEDUCTED, 800, [800], [500], deck=deck))
+            self.accepted(enter(5, 0, H, PLAIN, 500, [500], [400], deck=deck))
+            self.asks("report 0", "0 12439 12119")
+
+    def test_spaces(self) -> None:
+        self.accepted("open 1200", divided(1, U, 1200, 600, 1200, 500, deck=12), hatchway(2, 5, 99), hatchway(3, 5))
+        self.asks("spaces", "0 1 1200 3 0 1:0:1:0:360:600:4:12 2:0:4:0:5:5:0:99 3:0:4:0:5:5:0:0")
+
+
+class ReadingsOfVessels(OfCalls):
+    """'A vessel number on each sheet (0 to 4,294,967,295, 0 for none)', 'given at opening'."""
+
+    def test_given_at_opening(self) -> None:
+        """Left out: 0. Any number is one; over 4,294,967,295 the line is no call and the sheet stays."""
+        for vessel in (0, 1, 255, 2**31, 2**32 - 1):
+            self.asks(f"open 1200 {vessel}", "0")
+            self.asks("spaces", f"0 1 1200 0 {vessel}")
+            for beyond in (2**32, 2**32 + 1, 2**64 - 1, 2**64):
+                self.asks(f"open 100 {beyond}", "? number too large")
+                self.asks("spaces", f"0 1 1200 0 {vessel}")
+        self.asks("open 1200", "0")
+        self.asks("spaces", "0 1 1200 0 0")
+
+    def test_refused(self) -> None:
+        """'A sheet not open has vessel number 0.'"""
+        for length in (0, 99, 150_001, 2**64 - 1):
+            self.accepted("open 1200 7")
+            self.asks(f"open {length} 8", "2")
+            self.asks("spaces", "0 0 0 0 0")
+            self.assertEqual(self.session.sheet, s.CLOSED)
+
+    def test_no_call_changes_it(self) -> None:
+        self.accepted(f"open 1200 {2**32 - 1}")
+        for line in (
+            divided(1, U, 1200, 600, 1200, 500), room(2, 1, 5), tank_of_a_thousand(3, 1, 300, 0), mark(2, EXEMPT),
+            withdraw(3), "undo", "undo", "redo", "report 0", "write 0 0 9 2", "counts", "spaces", "report 2",
+            room(0, 0), "undo", "undo", "undo", "undo", "redo", "open 1200 4294967296",
+        ):
+            self.given(line)
+            self.assertEqual(self.session.sheet.vessel, 2**32 - 1, msg=line)
+
+    def test_in_a_file(self) -> None:
+        """Form 2 holds it, form 1 doesn't; a refused read leaves a sheet not open."""
+        self.accepted("open 1200 7", divided(1, U, 1200, 1200, 1200, 500))
+        file = dayfile.bytes_of(2, self.session.sheet, 0)
+        self.accepted("open 100 9", scripts.read(file))
+        self.asks("spaces", "0 1 1200 1 7 1:0:1:0:720:1200:0:0")
+        self.accepted(withdraw(1), "undo")
+        self.assertEqual(self.session.sheet.vessel, 7)
+        self.asks(scripts.read(file[1:]), "16 0 0 0 0")
+        self.asks("spaces", "0 0 0 0 0")
+        self.accepted("open 1200", divided(1, U, 1200, 1200, 1200, 500))
+        of_form_1 = dayfile.bytes_of(1, self.session.sheet, 0)
+        self.accepted("open 1200 7", scripts.read(of_form_1))
+        self.asks("spaces", "0 1 1200 1 0 1:0:1:0:720:1200:0:0")
+
+    def test_open_and_resume(self) -> None:
+        self.assertEqual(s.open_sheet(1200), (0, Sheet(True, 1200)))
+        self.assertEqual(s.open_sheet(1200, 7), (0, Sheet(True, 1200, vessel=7)))
+        self.assertEqual(s.open_sheet(99, 7), (2, s.CLOSED))
+        spaces = (Space(1, 0, U, 0, 5, 100, deck=99),)
+        self.assertEqual(s.resume(100, spaces, 7), (0, Sheet(True, 100, spaces, vessel=7)))
+        self.assertEqual(s.resume(99, spaces, 7), (1, s.CLOSED))
 
 
 class ReadingsOfReports(OfCalls):
@@ -1222,7 +1392,8 @@ class Protocol(OfCalls):
         )
         answers = [
             "0", "0 2 -", "0 0 -", "0 0 -", "11",
-            "0 1 4800 3 2:0:3:0:1280:1600:0 5:0:4:0:100:500:0 4:2:5:3:320:800:0", "0 3 0", "13 0 0", "13 0 00000000",
+            "0 1 4800 3 0 2:0:3:0:1280:1600:0:0 5:0:4:0:100:500:0:0 4:2:5:3:320:800:0:0", "0 3 0", "13 0 0",
+            "13 0 00000000",
         ]
         self.assertEqual(survey.answers("".join(line + "\n" for line in lines)).split("\n"), [*answers, ""])
 
@@ -1239,11 +1410,22 @@ class Protocol(OfCalls):
             ("Undo", "? unknown call"), ("undo\r", "? unknown call"), ("undo\t", "? unknown call"),
             (" # note", "? unknown call"), ("\xb2", "? unknown call"), ("close x", "? unknown call"),
             ("open", "? wrong number of words"), ("undo ", "? wrong number of words"),
-            ("open  1200", "? wrong number of words"), ("open 1200 ", "? wrong number of words"),
-            ("enter 1 0 4 0 10 5", "? wrong number of words"), ("open x y", "? wrong number of words"),
-            ("enter 1 0 4 0 10 5 5 2", "? wrong number of words"), ("enter 1 0 1 0 9 5 5 2", "? wrong number of words"),
-            ("enter 1 0 4 0 9 5 5 x", "? wrong number of words"), ("enter 1 0 4 0 9 5 5 ", "? wrong number of words"),
-            ("enter 1 0 4 0 10 5 5 2 2 2", "? wrong number of words"), ("enter 1 0 4 0 10 5 5 x 2", "? not a number"),
+            ("open  1200", "? not a number"), ("open 1200 ", "? not a number"),
+            ("open 1 2 3", "? wrong number of words"), ("open 1200 1 ", "? wrong number of words"),
+            ("open x y z", "? wrong number of words"), ("open 1200 x", "? not a number"),
+            ("open 1200 -", "? not a number"), ("open x 4294967296", "? not a number"),
+            ("open 1200 4294967296", "? number too large"), ("open 1200 04294967297", "? number too large"),
+            (f"open 1200 {large - 1}", "? number too large"), (f"open 1200 {large}", "? number too large"),
+            (f"open {large} x", "? number too large"), ("open 99 4294967296", "? number too large"),
+            ("enter 1 0 4 0 10 5", "? wrong number of words"),
+            ("enter 1 0 4 0 9 5 5 2 2 2 2", "? wrong number of words"),
+            ("enter 1 0 1 0 9 5 5 2 2 2 2", "? wrong number of words"), ("enter 1 0 4 0 9 5 5 x", "? not a number"),
+            ("enter 1 0 4 0 9 5 5 ", "? not a number"), ("enter 1 0 4 0 9 5 5 -", "? not a number"),
+            (f"enter 1 0 4 0 9 5 5 {large}", "? number too large"), ("enter 1 0 4 0 9 5 5 2 2 x", "? not a number"),
+            (f"enter 1 0 4 0 9 5 5 2 2 {large}", "? number too large"), ("enter 1 0 4 0 9 5 5 2 2 ", "? not a number"),
+            (f"enter 1 0 4 0 9 5 5 x 2 {large}", "? not a number"), ("enter 1 0 4 0 10 5 5 x 2", "? not a number"),
+            ("tank 1 1 0 9 0 5 5 2 2", "? wrong number of words"), ("tank 1 1 0 9 0 5", "? wrong number of words"),
+            ("tank 1 1 0 9 0 5 5 x", "? not a number"), (f"tank 1 1 0 9 0 5 5 {large}", "? number too large"),
             ("enter 1 0 4 0 10 5 5 2 x", "? not a number"), ("enter 1 0 4 0 10 5 5 2 -", "? not a number"),
             ("enter 1 0 4 0 10 5 5  2", "? not a number"), ("enter 1 0 4 0 10 5 5 2 ", "? not a number"),
             ("enter 1 0 4 0 10 5 5 2,2 2", "? not a number"), (f"enter 1 0 4 0 10 5 5 {large} x", "? number too large"),
@@ -1287,7 +1469,10 @@ class Protocol(OfCalls):
             (2**8, 2, "enter 2 1 5 {} 5 500 500"), (2**16, 5, "withdraw {}"), (2**16, 5, "mark {} 0"),
             (2**8, 2, "enter 2 0 1 0 600 0,9,0 9,9,9,9,9,9,9,9,9,9,9,9,9,9,9 {} 3"),
             (2**8, 2, "enter 2 0 1 0 600 0,9,0 9,9,9,9,9,9,9,9,9,9,9,9,9,9,9 3 {}"),
-            (2**8, 2, "mark 1 {}"), (2**8, 2, "report {}"),
+            (2**8, 2, "mark 1 {}"), (2**8, 2, "report {}"), (2**8, 2, "write 0 0 99 {}"),
+            (2**8, 2, "writef 0 0 9 0 {}"),
+            (2**8, 2, "enter 2 1 5 0 5 500 500 {}"), (2**8, 2, "enter 2 1 5 0 5 500 500 0 0 {}"),
+            (2**8, 2, "tank 2 1 0 300 0 9,9,9 9,9,9,9,9,9,9,9,9,9,9,9,9,9,9 {}"), (2**8, 2, "move - {} 0 9 0"),
         ):
             for value in (of_type - 1, of_type, of_type + 1, of_type + 5, 2**63, 2**64 - 1):
                 self.refused(number, form.format(value))
@@ -1297,23 +1482,19 @@ class Protocol(OfCalls):
     def test_zeros_in_front(self) -> None:
         self.accepted("open 0001200", "enter 0001 00 04 00 0005 01000 001000")
         self.asks("report 00", "13 0 0")
-        self.asks("spaces", "0 1 1200 1 1:0:4:0:5:5:0")
+        self.asks("spaces", "0 1 1200 1 0 1:0:4:0:5:5:0:0")
         self.asks("withdraw " + "0" * 9000 + "1", "0")
 
     def test_every_call_takes_as_many_words_as_told(self) -> None:
-        """An entry seven or nine, by whether it says something of its ends."""
-        words = {
-            name: {len(readers), len(readers) - survey.MAY_BE_LEFT_OUT.get(name, 0)}
-            for name, (readers, _) in survey.CALLS.items()
-        }
+        """An entry from seven to ten, by whether it says something of its ends and of its deck."""
         told = {
-            "open": {1}, "enter": {7, 9}, "tank": {7}, "zones": {4}, "withdraw": {1}, "mark": {2}, "undo": {0},
-            "redo": {0}, "counts": {0}, "report": {1}, "write": {3}, "writef": {4}, "read": {1}, "before": {2},
-            "spaces": {0},
+            "open": {1, 2}, "enter": {7, 8, 9, 10}, "tank": {7, 8}, "zones": {4}, "withdraw": {1}, "mark": {2},
+            "undo": {0}, "redo": {0}, "counts": {0}, "report": {1}, "write": {3, 4}, "writef": {4, 5}, "read": {1},
+            "before": {2}, "move": {5}, "spaces": {0},
         }
-        self.assertEqual(words, told)
+        self.assertEqual(set(told), set(survey.CALLS))
         for name, counts in told.items():
-            for count in range(12):
+            for count in range(13):
                 answer = self.given(" ".join([name, *["x"] * count]))[0]
                 self.assertEqual(answer != "? wrong number of words", count in counts, msg=(name, count))
 
@@ -1321,7 +1502,7 @@ class Protocol(OfCalls):
         given = mock.Mock(buffer=io.BytesIO(b"# \xff\nopen 1200\nspaces\n\xb2\n"))
         with mock.patch("sys.stdin", given), redirect_stdout(io.StringIO()) as printed:
             self.assertEqual(survey.main(), 0)
-        self.assertEqual(printed.getvalue(), "0\n0 1 1200 0\n? unknown call\n")
+        self.assertEqual(printed.getvalue(), "0\n0 1 1200 0 0\n? unknown call\n")
 
 
 class Invariants(unittest.TestCase):
@@ -1332,7 +1513,8 @@ class Invariants(unittest.TestCase):
         cls.walks = [steps(scripts.script(seed, 300)) for seed in range(8)]
         cls.walks.append(standard_steps())
         cls.steps = [step for walk in cls.walks for step in walk]
-        cls.states = list({(step.after.length, step.after.spaces): step.after for step in cls.steps}.values())
+        of_sheets = ((step.after.length, step.after.spaces, step.after.vessel) for step in cls.steps)
+        cls.states = list(dict(zip(of_sheets, (step.after for step in cls.steps))).values())
 
     def test_spaces(self) -> None:
         for sheet in self.states:
@@ -1387,7 +1569,7 @@ class Invariants(unittest.TestCase):
 
     def test_refused_calls_change_nothing(self) -> None:
         for step in self.steps:
-            if step.number != 0 or step.call in LOOKS + WRITES + WHERE:
+            if step.number != 0 or step.call in LOOKS + WRITES + WHERE + MOVES:
                 expected = s.CLOSED if step.call in BEGINNINGS and step.number is not None else step.before
                 self.assertEqual(step.after, expected)
 
@@ -1411,12 +1593,12 @@ class Invariants(unittest.TestCase):
             if step.after.later:
                 self.assertEqual(s.undo(s.redo(step.after)[1]), (0, step.after))
 
-    def replayed(self, beginning: str, changes: list[str]) -> tuple[Space, ...]:
-        """The spaces that the changes make on the sheet opened or read at the beginning; each is accepted."""
+    def replayed(self, beginning: str, changes: list[str]) -> tuple[tuple[Space, ...], int]:
+        """The spaces and the vessel that the changes make of the sheet opened or read at first; each is accepted."""
         session = Session()
         self.assertEqual(session.answer(beginning).split(" ")[0], "0")
         self.assertEqual({session.answer(line).split(" ")[0] for line in changes} | {"0"}, {"0"})
-        return session.sheet.spaces
+        return session.sheet.spaces, session.sheet.vessel
 
     def test_accepted_changes_not_undone_give_the_standing_spaces(self) -> None:
         for walk in self.walks:
@@ -1426,7 +1608,7 @@ class Invariants(unittest.TestCase):
             for place, step in enumerate(walk):
                 if step.call in BEGINNINGS and step.number == 0:
                     if step.before.is_open:
-                        self.assertEqual(self.replayed(beginning, done), step.before.spaces)
+                        self.assertEqual(self.replayed(beginning, done), (step.before.spaces, step.before.vessel))
                     beginning, done, undone = step.line, [], []
                 elif step.call in CHANGES and step.number == 0:
                     done, undone = [*done, step.line], []
@@ -1435,13 +1617,13 @@ class Invariants(unittest.TestCase):
                 elif step.call == "redo" and step.number == 0:
                     done.append(undone.pop())
                 if place % 100 == 0 and step.after.is_open:
-                    self.assertEqual(self.replayed(beginning, done), step.after.spaces)
+                    self.assertEqual(self.replayed(beginning, done), (step.after.spaces, step.after.vessel))
 
     def test_every_sheet_can_be_resumed(self) -> None:
         for sheet in self.states[::5]:
             if sheet.is_open:
-                resumed = Sheet(True, sheet.length, s.recorded(sheet.spaces))
-                self.assertEqual(s.resume(sheet.length, sheet.spaces), (0, resumed))
+                resumed = Sheet(True, sheet.length, s.recorded(sheet.spaces), vessel=sheet.vessel)
+                self.assertEqual(s.resume(sheet.length, sheet.spaces, sheet.vessel), (0, resumed))
 
     def test_m(self) -> None:
         """4 or 6 for a U or none, none for every other space; whatever is done, a space of an entry keeps its m."""
@@ -1455,6 +1637,31 @@ class Invariants(unittest.TestCase):
                 self.assertLessEqual(kept.items(), before.items())
             if step.number == 0 and step.call in ("read", "before"):
                 self.assertEqual({space.m for space in step.after.spaces} | {0}, {0})
+
+    def test_decks(self) -> None:
+        """From 0 to 99; whatever is done, a space keeps the deck it was entered with."""
+        self.assertLessEqual({0, 1, 99}, {space.deck for sheet in self.states for space in sheet.spaces})
+        for sheet in self.states:
+            self.assertTrue(all(0 <= space.deck <= 99 for space in sheet.spaces))
+        for step in self.steps:
+            if step.number == 0 and step.call in (*CHANGES, "undo", "redo"):
+                before = {space.id: space.deck for space in step.before.spaces}
+                kept = {space.id: space.deck for space in step.after.spaces if space.id in before}
+                self.assertLessEqual(kept.items(), before.items())
+            if step.number == 0 and step.call in ENTRIES:
+                self.assertEqual(step.after.spaces[-1].deck, step.further.get("deck", 0))
+
+    def test_vessels(self) -> None:
+        """Given at opening, held by form 2 alone, never changed by any other call; 0 on a sheet not open."""
+        self.assertLessEqual({0, 1, 2**32 - 1}, {sheet.vessel for sheet in self.states})
+        for step in self.steps:
+            if step.call not in BEGINNINGS or step.number is None:
+                self.assertEqual(step.after.vessel, step.before.vessel)
+            elif step.call == "open":
+                self.assertEqual(step.after.vessel, 0 if step.number else step.further.get("vessel", 0))
+            elif step.answer.split(" ")[4] != "2":
+                self.assertEqual(step.after.vessel, 0)
+            self.assertTrue(step.after.is_open or step.after == s.CLOSED)
 
     def test_tanks_are_never_too_deep_nor_not_plain_twice(self) -> None:
         """'On a sheet that calls reach, 7 and 8 never come from a tank, since a U is at level 1 and plain.'"""
@@ -1536,8 +1743,8 @@ class StandardScript(unittest.TestCase):
         self.assertTrue(self.text.isascii())
         self.assertTrue(self.text.startswith("#"))
         self.assertTrue(self.text.endswith("\n"))
-        self.assertLessEqual(len(self.text), 1_015_000)
-        self.assertTrue(5_000 <= len(self.steps) <= 16_000, msg=len(self.steps))
+        self.assertLessEqual(len(self.text), 1_040_000)
+        self.assertTrue(5_000 <= len(self.steps) <= 20_000, msg=len(self.steps))
         self.assertEqual(survey.answers(self.text), "".join(step.answer + "\n" for step in self.steps))
 
     def test_reproducible(self) -> None:
@@ -1554,8 +1761,9 @@ class StandardScript(unittest.TestCase):
             "open": {0, 2}, "enter": {0, 1, 2, 3, 4, 5, 6, 7, 8, 9, 10, 19}, "tank": {0, 1, 2, 3, 4, 5, 6, 9, 10, 29},
             "zones": {0, 2, 9}, "withdraw": {0, 1, 5, 11},
             "mark": {0, 1, 2, 5, 6, 8}, "undo": {0, 1, 12}, "redo": {0, 1, 12}, "counts": {0},
-            "report": {0, 1, 2, 13, 14}, "write": {0, 1, 2, 13, 14, 15}, "writef": {0, 1, 2, 13, 14, 15},
-            "read": {0, 13, 14, 16, 17, 18}, "before": {0, 13, 14, 16, 17, 18}, "spaces": {0},
+            "report": {0, 1, 2, 13, 14}, "write": {0, 1, 2, 13, 14, 15, 20}, "writef": {0, 1, 2, 13, 14, 15, 20},
+            "read": {0, 13, 14, 16, 17, 18}, "before": {0, 13, 14, 16, 17, 18},
+            "move": {0, 2, 13, 14, 15, 16, 17, 18, 20}, "spaces": {0},
         }
         for call, expected in numbers.items():
             self.assertEqual({step.number for step in self.of(call)}, expected, msg=call)
@@ -2022,6 +2230,59 @@ class StandardScript(unittest.TestCase):
                     found.add(f"tank {after.answer}")
         self.assertLessEqual({(kind, "undo 0", "redo 0") for kind in (U, B, S)}, found)
         self.assertIn("tank 0", found)
+
+    def test_decks_in_the_script(self) -> None:
+        """Each kind and a tank: in range accepted, beyond refused, above its type; beside every number it can meet."""
+        named: dict[Any, set[tuple[int, int]]] = {}
+        for step in [*self.of("enter"), *self.of("tank")]:
+            if "deck" in step.further:
+                kind = "tank" if step.call == "tank" else step.new.kind
+                named.setdefault(kind, set()).add((step.number, step.further["deck"]))
+        for kind in (*m.KINDS, "tank"):
+            self.assertLessEqual({(0, 0), (0, 1), (0, 99), (2, 100), (2, 255), (1, 99), (1, 100)}, named[kind])
+        words = {step.words[-1] for step in self.of("enter", 2) if "deck" in step.further}
+        self.assertLessEqual({"256", "355", str(2**16 + 1), str(2**64 - 1)}, words)
+        for call, others in (("enter", {3, 4, 5, 6, 7, 8, 9, 10, 19}), ("tank", {3, 4, 5, 6, 9, 10, 29})):
+            beside = [step for step in self.of(call) if step.before.is_open and step.further.get("deck", 0) > 99]
+            self.assertLessEqual(others, set().union(*(step.numbers for step in beside)))
+            alone = [step for step in self.of(call) if step.further.get("deck") == 99]
+            self.assertLessEqual(others | {0, 1, 2}, {step.number for step in alone})
+
+    def test_words_behind_an_entry_in_the_script(self) -> None:
+        """A deck alone, ends alone, both and neither, of every kind; of a U without ends 2."""
+        found = {(step.arguments[2], len(step.words) - 8, step.number == 0) for step in self.of("enter", 0, 2)}
+        for kind in m.KINDS:
+            self.assertLessEqual({(kind, count, kind != U or count in (2, 3)) for count in range(4)}, found)
+
+    def test_decks_carried_in_the_script(self) -> None:
+        """Undo and redo of an entry, a tank, a withdrawal and a mark of a space with a deck, and a look behind each."""
+        found, lines = set(), [step for step in self.steps if step.number is not None]
+        for first, *later in zip(*(lines[by:] for by in range(6))):
+            if first.number == 0 and first.call in CHANGES:
+                id = first.arguments[0]
+                own = s.find(first.before.spaces, id) or s.find(first.after.spaces, id)
+                calls = tuple(step.call for step in later if step.number == 0)
+                found |= {(first.call, calls)} if own.deck else set()
+        self.assertLessEqual(set(product(CHANGES, [("spaces", "undo", "spaces", "redo", "spaces")])), found)
+
+    def test_vessels_in_the_script(self) -> None:
+        """At the ends of their range, on openings accepted and refused, over a sheet that has one; beyond, no call."""
+        opened = {(step.number, step.further.get("vessel")) for step in self.of("open")}
+        self.assertLessEqual(set(product((0, 2), (None, 0, 1, 2**32 - 1))), opened)
+        again = {(bool(step.before.vessel), bool(step.after.vessel), step.call) for step in self.steps}
+        for call in ("open", "read", "before"):
+            self.assertLessEqual({(True, True, call), (True, False, call), (False, True, call)}, again)
+        beyond = {step.words[2] for step in self.steps if step.call == "open" and len(step.words) == 3
+                  and step.answer == "? number too large"}
+        self.assertLessEqual({str(2**32), str(2**32 + 1), str(2**64 - 1), str(2**64)}, beyond)
+
+    def test_lines_that_are_no_calls(self) -> None:
+        """Whatever the sheet."""
+        session = Session()
+        for first in ("open 99", "open 1200 7"):
+            session.answer(first)
+            for line in scripts.MALFORMED:
+                self.assertIn((session.answer(line) or "?")[0], "?", msg=line)
 
     def test_random_roundings(self) -> None:
         """Calls at random have U, B and S in every number of parts, rounded up, down and not, and all of depths."""

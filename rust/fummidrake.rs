@@ -9,7 +9,7 @@
 //! back with the answer: the earlier one is gone unless it was cloned, and the compiler warns where an answer is dropped.
 
 /// A space as it stands; `within` is the enclosing id, 0 for a U, B, S or H. `m` is a U's parts of depth, 4 or 6, where it was entered from
-/// offsets; else 0, and 0 for all that was read from a file.
+/// offsets; else 0, and 0 for all that was read from a file. `deck` is 0 to 99, 0 for none.
 #[repr(C)]
 #[derive(Clone, Copy, Debug, PartialEq, Eq)]
 pub struct Space {
@@ -18,12 +18,13 @@ pub struct Space {
     pub kind: u8,
     pub standing: u8,
     pub m: u8,
+    pub deck: u8,
     pub tonnage: u32,
     pub length: u32,
 }
 
 /// What is entered; `within` is looked at only of a room, `fore_end` and `aft_end` only of a U: each is 1 inner (at a step), 2 upright or
-/// 3 pointed.
+/// 3 pointed. `deck` is 0 to 99, 0 for none.
 #[repr(C)]
 #[derive(Clone, Copy, Debug, Default)]
 pub struct Entry {
@@ -33,6 +34,7 @@ pub struct Entry {
     pub standing: u8,
     pub fore_end: u8,
     pub aft_end: u8,
+    pub deck: u8,
     pub length: u32,
 }
 
@@ -43,6 +45,7 @@ pub struct Tank {
     pub id: u16,
     pub within: u16,
     pub standing: u8,
+    pub deck: u8,
     pub length: u32,
     pub fore: u32,
 }
@@ -70,6 +73,7 @@ pub struct Sheet {
     changes: [OpenChange; 64],
     undoable: usize,
     redoable: usize,
+    vessel: u32,
 }
 
 /// The number, and the sheet after the call: where refused, as it came.
@@ -138,7 +142,8 @@ pub struct Written {
     pub sheet: Sheet,
 }
 
-/// The number, the position of the record where it is 17, the sheet, its justified mark and the byte at which it starts.
+/// The number, the position of the record where it is 17, the sheet, its justified mark, the byte at which it starts and the form in which
+/// it was read.
 #[repr(C)]
 #[must_use = "the sheet that was read is in it, and whether the file was refused"]
 pub struct Reading {
@@ -147,6 +152,17 @@ pub struct Reading {
     pub sheet: Sheet,
     pub justified: u8,
     pub start: usize,
+    pub form: u8,
+}
+
+/// The number, the bytes written (0 where refused), and the position of the record where the number is 17.
+#[repr(C)]
+#[derive(Clone, Copy, Debug, PartialEq, Eq)]
+#[must_use = "the bytes written are in it, and whether the move was refused"]
+pub struct Moved {
+    pub number: u8,
+    pub bytes: usize,
+    pub position: usize,
 }
 
 /// A text: the first `size` bytes; zeros follow.
@@ -160,18 +176,19 @@ pub struct Listing {
 // The structs have the sizes that the calls hand over.
 const _: () = {
     assert!(size_of::<Space>() == 16);
-    assert!(size_of::<Entry>() == 12);
+    assert!(size_of::<Entry>() == 16);
     assert!(size_of::<Tank>() == 16);
     assert!(size_of::<OpenChange>() == 32);
-    assert!(size_of::<Sheet>() == 5280);
-    assert!(size_of::<Changed>() == 5288);
+    assert!(size_of::<Sheet>() == 5288);
+    assert!(size_of::<Changed>() == 5296);
     assert!(size_of::<Roundings>() == 18);
-    assert!(size_of::<Entering>() == 5304);
-    assert!(size_of::<Counted>() == 5296);
-    assert!(size_of::<Reported>() == 5304);
+    assert!(size_of::<Entering>() == 5312);
+    assert!(size_of::<Counted>() == 5304);
+    assert!(size_of::<Reported>() == 5312);
     assert!(size_of::<LaidOut>() == 24);
-    assert!(size_of::<Written>() == 5296);
-    assert!(size_of::<Reading>() == 5312);
+    assert!(size_of::<Written>() == 5304);
+    assert!(size_of::<Reading>() == 5328);
+    assert!(size_of::<Moved>() == 24);
     assert!(size_of::<Listing>() == 8200);
 };
 
@@ -179,7 +196,7 @@ mod calls {
     use super::*;
 
     unsafe extern "C" {
-        pub safe fn fummidrake_open(length: u32) -> Changed;
+        pub safe fn fummidrake_open(length: u32, vessel: u32) -> Changed;
         pub fn fummidrake_enter(
             sheet: Sheet,
             entry: Entry,
@@ -204,6 +221,7 @@ mod calls {
         pub safe fn fummidrake_report(sheet: Sheet, justified: u8) -> Reported;
         pub safe fn fummidrake_is_open(sheet: Sheet) -> bool;
         pub safe fn fummidrake_tonnage_length(sheet: Sheet) -> u32;
+        pub safe fn fummidrake_vessel(sheet: Sheet) -> u32;
         pub safe fn fummidrake_standing_count(sheet: Sheet) -> usize;
         pub safe fn fummidrake_space_at(sheet: Sheet, place: usize) -> Space;
         pub safe fn fummidrake_stations(kind: u8, tonnage_length: u32, length: u32) -> usize;
@@ -216,18 +234,34 @@ mod calls {
             fore: u32,
             section: usize,
         ) -> usize;
-        pub fn fummidrake_write(sheet: Sheet, justified: u8, buf: *mut u8, buf_bytes: usize, at: usize) -> Written;
+        pub fn fummidrake_write(
+            sheet: Sheet,
+            justified: u8,
+            form: u8,
+            buf: *mut u8,
+            buf_bytes: usize,
+            at: usize,
+        ) -> Written;
         pub fn fummidrake_read(file: *const u8, file_bytes: usize) -> Reading;
         pub fn fummidrake_read_before(file: *const u8, file_bytes: usize, start: usize) -> Reading;
+        pub fn fummidrake_move_last(
+            from: *const u8,
+            from_bytes: usize,
+            form: u8,
+            to: *mut u8,
+            to_bytes: usize,
+            at: usize,
+        ) -> Moved;
         pub fn fummidrake_list(file: *const u8, file_bytes: usize) -> Listing;
     }
 }
 
 /// The calls. Those that hand no sheet back only look at it.
 impl Sheet {
-    /// Opens a new sheet with a tonnage length; refused with 2, and a sheet not open, where it is outside its range.
-    pub fn open(length: u32) -> Changed {
-        calls::fummidrake_open(length)
+    /// Opens a new sheet with a tonnage length and a vessel number, any, 0 for none; refused with 2, and a sheet not open, where the length is
+    /// outside its range. The vessel number stays with the sheet.
+    pub fn open(length: u32, vessel: u32) -> Changed {
+        calls::fummidrake_open(length, vessel)
     }
 
     /// Enters a space from its offsets: for a U the depths at the stations, and the breadths station by station from the bow, at each
@@ -294,6 +328,12 @@ impl Sheet {
         calls::fummidrake_tonnage_length(self.clone())
     }
 
+    /// Gives the vessel number; 0 on a sheet not open.
+    #[must_use]
+    pub fn vessel(&self) -> u32 {
+        calls::fummidrake_vessel(self.clone())
+    }
+
     /// Says how many spaces stand; none on a sheet not open.
     #[must_use]
     pub fn standing_count(&self) -> usize {
@@ -311,11 +351,12 @@ impl Sheet {
         (0..self.standing_count()).map(|place| self.space_at(place))
     }
 
-    /// Writes the sheet with its justified mark into a buffer, from the byte `at` on; no byte before or after is touched, and none where
-    /// refused, with 1, 2, 13, 14, 15.
-    pub fn write(self, justified: u8, buf: &mut [u8], at: usize) -> Written {
+    /// Writes the sheet with its justified mark into a buffer, from the byte `at` on, in a form: in form 1 16 bytes a space and 28 behind
+    /// them, in form 2 20 and 32, with the decks and the vessel number. No byte before or after is touched, and none where refused, with 1, 2,
+    /// 13, 14, 20, 15.
+    pub fn write(self, justified: u8, form: u8, buf: &mut [u8], at: usize) -> Written {
         // SAFETY: the pointer and its bytes are one slice's, lent for the call alone.
-        unsafe { calls::fummidrake_write(self, justified, buf.as_mut_ptr(), buf.len(), at) }
+        unsafe { calls::fummidrake_write(self, justified, form, buf.as_mut_ptr(), buf.len(), at) }
     }
 }
 
@@ -344,8 +385,9 @@ pub fn section_station(tonnage_length: u32, under_deck: u32, length: u32, fore: 
     calls::fummidrake_section_station(tonnage_length, under_deck, length, fore, section)
 }
 
-/// Reads the last sheet of a file, which may be any bytes; the bytes ahead of its start are the earlier sheets, read the same way. Refused, with a
-/// sheet not open, mark 0 and start 0, with 16, 17, 13, 14, 18.
+/// Reads the last sheet of a file, which may be any bytes; the bytes ahead of its start are the earlier sheets, read the same way. Either form
+/// is read, and answered; a sheet in form 1 has no decks and no vessel number. Refused, with a sheet not open, mark 0, start 0 and form 0, with
+/// 16, 17, 13, 14, 18.
 pub fn read(file: &[u8]) -> Reading {
     // SAFETY: the pointer and its bytes are one slice's.
     unsafe { calls::fummidrake_read(file.as_ptr(), file.len()) }
@@ -357,8 +399,15 @@ pub fn read_before(file: &[u8], start: usize) -> Reading {
     unsafe { calls::fummidrake_read_before(file.as_ptr(), file.len(), start) }
 }
 
-/// Lists the last sheet of a file: its tonnage length, a line a space, gross and net; or REFUSED, the number and the position. A file has at
-/// most 65,536 bytes here: a longer one is listed as REFUSED 16 0, whatever it holds.
+/// Moves the last sheet of the file `from`, with its mark, into the buffer `to`, from the byte `at` on, in a form, which may be the one it has.
+/// No byte before or after is touched, and none where refused, with 2, 16, 17, 13, 14, 18, 20, 15.
+pub fn move_last(from: &[u8], form: u8, to: &mut [u8], at: usize) -> Moved {
+    // SAFETY: each pointer and its bytes are one slice's, `to` lent for the call alone.
+    unsafe { calls::fummidrake_move_last(from.as_ptr(), from.len(), form, to.as_mut_ptr(), to.len(), at) }
+}
+
+/// Lists the last sheet of a file, in either form: its tonnage length, a line a space, gross and net; or REFUSED, the number and the position.
+/// A file has at most 65,536 bytes here: a longer one is listed as REFUSED 16 0, whatever it holds.
 pub fn list(file: &[u8]) -> Listing {
     // SAFETY: the pointer and its bytes are one slice's.
     unsafe { calls::fummidrake_list(file.as_ptr(), file.len()) }

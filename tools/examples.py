@@ -1,8 +1,8 @@
 #!/usr/bin/env python3
 """Builds and runs the examples in C and Rust by the README's own lines, and plays the tank's script on the proved program; fails where one
-prints something else than the second program's answers, examples/answers.txt (with the listing) and examples/tank_answers.txt; and fails
-where the README's few lines of C or Rust answer another number than it says of them, or its section on the tank quotes an answer that
-isn't among these.
+prints something else than the second program's answers, examples/answers.txt (with the listing) and examples/tank_answers.txt; where a
+day's file moved up isn't what the second program makes of it, examples/barge_form_2.day; and where the README's few lines of C or Rust answer
+another number than it says of them, or its section on the tank quotes an answer that isn't among these.
 
 A line that compiles C or runs a program goes by tools/x86, which does the same on a machine of another kind; where no Rust is compiled
 for x86-64, the examples in Rust are left out.
@@ -19,12 +19,15 @@ ANSWERS = {'barge': Path('examples/answers.txt'), 'tank': Path('examples/tank_an
 # Each line of the README that must print the answers of a script; `survey` prints them without the calls' names.
 RUNS = {'target/survey_c': 'barge', 'target/survey_rust': 'barge', 'target/tank_c': 'tank', 'target/tank_rust': 'tank'}
 PLAYS = {'target/bin/survey < examples/tank.txt': 'tank'}
+# The line that moves the example barge's file up to form 2; that file, what it must be there, and what the line writes.
+MOVES = 'target/move_up < examples/barge.day > target/barge_form_2.day'
+BARGE, BARGE_FORM_2, MOVED = Path('examples/barge.day'), Path('examples/barge_form_2.day'), Path('target/barge_form_2.day')
 CODE = re.compile(r'```\w+\n(.*?)```', re.S)
 
 # The sections of the README with lines that are run, and those of them with few lines of code: a program around these, LINES, which ends
 # with status 0 where HELD, and how it is built and run.
 TANK = 'A tank that follows the hull'
-SECTIONS = ('Call it from C', 'Call it from Rust', TANK)
+SECTIONS = ('Call it from C', 'Call it from Rust', 'Deck and vessel numbers', TANK)
 CALLS = {
     'Call it from C': (
         'calls.c',
@@ -66,6 +69,21 @@ def misquoted() -> list[str]:
     return [quoted for quoted in re.findall(r'`(\d[^`]*)`', text_of(TANK)) if quoted not in answers]
 
 
+def wrongly_moved() -> str:
+    """What the program that moves a file up makes otherwise: of the barge's file, of days in both forms and of ones that can't be moved."""
+    if MOVED.read_bytes() != BARGE_FORM_2.read_bytes():
+        return f'{MOVED} is not {BARGE_FORM_2}'
+    old, new = BARGE.read_bytes(), BARGE_FORM_2.read_bytes()
+    too_long = old * (65_536 // len(new) + 1)
+    for day, status, moved in (
+        (b'', 0, b''), (old + new + old, 0, 3 * new), (b'x' + old, 1, b''), (too_long, 1, b''), (bytes(65_537), 1, b''),
+    ):
+        run = subprocess.run(['tools/x86', 'run', 'target/move_up'], input=day, capture_output=True)
+        if (run.returncode, run.stdout) != (status, moved):
+            return f'target/move_up: exit status {run.returncode} and {len(run.stdout)} bytes of a day of {len(day)}'
+    return ''
+
+
 def on_this_machine(line: str) -> str:
     """A line of the README as any machine has it: gcc compiles for x86-64, and a program under target/ is one for x86-64."""
     by_compiler = re.sub(r'(^|&& )gcc ', r'\1tools/x86 cc ', line)
@@ -91,7 +109,7 @@ def answers_to(line: str) -> str | None:
 def main() -> int:
     rust = subprocess.run(['tools/x86', 'rust']).returncode == 0
     lines = [(section, line) for section in SECTIONS for line in lines_of(section)]
-    if missing := {*RUNS, *PLAYS} - {line for _, line in lines}:
+    if missing := {*RUNS, *PLAYS, MOVES} - {line for _, line in lines}:
         print(f'README.md: no line {", ".join(sorted(missing))}')
         return 1
     if wrong := misquoted():
@@ -106,6 +124,9 @@ def main() -> int:
         if answers_to(line) not in (None, found):
             print(f'{section}: {line} prints something else than the second program:\n{found}')
             return 1
+    if wrong := wrongly_moved():
+        print(wrong)
+        return 1
     for section in CALLS:
         if rust or 'Rust' not in section:
             try_code(section)

@@ -77,7 +77,7 @@ def header_faults() -> Iterator[str]:
 
 # The module for Rust
 
-MODULE = '#[path = "RUST"]\n#[allow(dead_code)]\nmod fummidrake;\nfn main() {\n    let opened = fummidrake::Sheet::open(4800);\nLINE\n}\n'
+MODULE = '#[path = "RUST"]\n#[allow(dead_code)]\nmod fummidrake;\nfn main() {\n    let opened = fummidrake::Sheet::open(4800, 0);\nLINE\n}\n'
 LINES = {
     'let _kept = opened.sheet.undo();': '',
     'opened.sheet.undo();': 'unused_must_use',

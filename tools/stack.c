@@ -1,8 +1,9 @@
 /* The stack that each call takes, measured: a call is made on a stack of its own, every byte of it painted, and the lowest byte that is
  * no longer as it was painted says how far down the call went. The sheet has 200 spaces, eight deep, and 64 changes; beside it each
- * call is made on one with a space fewer, on others where changes are undone, on one whose rooms enclose one another in a ring, as no
- * call leaves them, on one not open, and on one without its U. What is entered is a room, on the last the U: upright, and pointed with
- * no area there and with some. Prints nothing, or the calls that take more than the header says; with -v what each takes.
+ * call is made on one with a space fewer, on one with decks and a vessel number, on others where changes are undone, on one whose rooms
+ * enclose one another in a ring, as no call leaves them, on one not open, and on one without its U. What is entered is a room, on the
+ * last the U: upright, and pointed with no area there and with some. Files are written, read and moved in both forms. Prints nothing, or
+ * the calls that take more than the header says; with -v what each takes.
  *
  * Run at the root of the project, after `rt staticlib fummidrake`: see `make test`. */
 #define _DEFAULT_SOURCE
@@ -13,7 +14,7 @@
 #include <string.h>
 #include <ucontext.h>
 
-enum { PAINT = 0xa5, STATIONS = 17, ALL_BREADTHS = 17 * 7, DAY = 65536, LAST = DAY - (16 * 200 + 28), LENGTH = 30000 };
+enum { PAINT = 0xa5, STATIONS = 17, ALL_BREADTHS = 17 * 7, DAY = 65536, LENGTH = 30000, VESSEL = 1042 };
 /* The ends of a U. */
 enum { UPRIGHT = 2, POINTED };
 /* A tank in the U, of 16 parts; three of its stations lie between two zones. */
@@ -33,9 +34,10 @@ typedef struct {
 
 static input given;
 static uint32_t section_depths[SECTIONS], section_breadths[SECTION_BREADTHS];
-static const fummidrake_tank tank = {9999, 2, 0, TANK_LENGTH, TANK_FORE};
-/* A day whose last sheet is the full one, and the room for another. */
-static uint8_t day[DAY], buffer[DAY];
+static const fummidrake_tank tank = {9999, 2, 0, 99, TANK_LENGTH, TANK_FORE};
+/* The form of what is written and read. For each form a day whose last sheet is the full one, and the room for another. */
+static uint8_t form;
+static uint8_t days[2][DAY], buffer[DAY];
 static uint8_t number;
 static fummidrake_changed changed;
 static fummidrake_entering entered;
@@ -44,11 +46,17 @@ static fummidrake_reported reported;
 static fummidrake_laid_out laid_out;
 static fummidrake_written written;
 static fummidrake_reading reading;
+static fummidrake_moved moved;
 static fummidrake_listing listing;
 static fummidrake_space space;
 static size_t size;
 
-/* The calls: where there is a form in place, it is made by both, and the greater counts. */
+/* Where a full sheet is the last of a day in its form. */
+static size_t last(void) {
+    return form == 1 ? DAY - (16 * 200 + 28) : DAY - (20 * 200 + 32);
+}
+
+/* The calls: where one can be made in place too, it is made both ways, and the greater counts. */
 #define CHANGES(name, ...)                                                                                                     \
     static void name(void) {                                                                                                   \
         changed = fummidrake_##name(given.sheet __VA_ARGS__);                                                                  \
@@ -74,7 +82,7 @@ static void enter_on(void) {
 }
 
 static void open(void) {
-    changed = fummidrake_open(LENGTH);
+    changed = fummidrake_open(LENGTH, VESSEL);
     number = changed.number;
 }
 
@@ -98,12 +106,12 @@ static void report_on(void) {
 }
 
 static void write(void) {
-    written = fummidrake_write(given.sheet, 1, buffer, DAY, LAST);
+    written = fummidrake_write(given.sheet, 1, form, buffer, DAY, last());
     number = written.number;
 }
 
 static void write_on(void) {
-    number = fummidrake_write_on(&given.sheet, 1, buffer, DAY, LAST).number;
+    number = fummidrake_write_on(&given.sheet, 1, form, buffer, DAY, last()).number;
 }
 
 static void is_open(void) {
@@ -112,6 +120,10 @@ static void is_open(void) {
 
 static void tonnage_length(void) {
     number = fummidrake_tonnage_length(given.sheet) == LENGTH ? 0 : 1;
+}
+
+static void vessel(void) {
+    number = fummidrake_vessel(given.sheet) == VESSEL ? 0 : 1;
 }
 
 static void standing_count(void) {
@@ -142,17 +154,26 @@ static void section_station(void) {
 }
 
 static void read(void) {
-    reading = fummidrake_read(day, DAY);
+    reading = fummidrake_read(days[form - 1], DAY);
     number = reading.number;
 }
 
 static void read_before(void) {
-    reading = fummidrake_read_before(day, DAY, DAY);
+    reading = fummidrake_read_before(days[form - 1], DAY, DAY);
     number = reading.number;
 }
 
+/* To either form: the greater counts. */
+static void move_last(void) {
+    number = 0;
+    for (uint8_t to = 1; to <= 2; to++) {
+        moved = fummidrake_move_last(days[form - 1], DAY, to, buffer, DAY, 0);
+        number |= moved.number;
+    }
+}
+
 static void list(void) {
-    listing = fummidrake_list(day, DAY);
+    listing = fummidrake_list(days[form - 1], DAY);
     number = listing.text[0] == 'L' ? 0 : 1;
 }
 
@@ -175,6 +196,7 @@ static const struct {
     ROW_ON(report, FUMMIDRAKE_STACK_REPORT),
     ROW(is_open, FUMMIDRAKE_STACK_IS_OPEN),
     ROW(tonnage_length, FUMMIDRAKE_STACK_TONNAGE_LENGTH),
+    ROW(vessel, FUMMIDRAKE_STACK_VESSEL),
     ROW(standing_count, FUMMIDRAKE_STACK_STANDING_COUNT),
     ROW(space_at, FUMMIDRAKE_STACK_SPACE_AT),
     ROW(stations, FUMMIDRAKE_STACK_STATIONS),
@@ -184,6 +206,7 @@ static const struct {
     ROW_ON(write, FUMMIDRAKE_STACK_WRITE),
     ROW(read, FUMMIDRAKE_STACK_READ),
     ROW(read_before, FUMMIDRAKE_STACK_READ_BEFORE),
+    ROW(move_last, FUMMIDRAKE_STACK_MOVE_LAST),
     ROW(list, FUMMIDRAKE_STACK_LIST),
 };
 
@@ -248,24 +271,26 @@ static uint8_t number_of(input made) {
 /* The space with an id: a superstructure, the U, a superstructure with a chain of rooms, and in the lowest of these, 9, the others. */
 static input entering_space(fummidrake_sheet sheet, uint16_t id) {
     if (id == 2)
-        return entering(sheet, (fummidrake_entry){id, 0, 1, 0, UPRIGHT, UPRIGHT, LENGTH}, 1700, 500);
+        return entering(sheet, (fummidrake_entry){id, 0, 1, 0, UPRIGHT, UPRIGHT, 0, LENGTH}, 1700, 500);
     if (id <= 3)
-        return entering(sheet, (fummidrake_entry){id, 0, 3, 0, 0, 0, 300}, 933, 1000);
+        return entering(sheet, (fummidrake_entry){id, 0, 3, 0, 0, 0, 0, 300}, 933, 1000);
     if (id <= 9)
-        return entering(sheet, (fummidrake_entry){id, (uint16_t)(id - 1), 5, 0, 0, 0, 500}, 500, 1000);
-    return entering(sheet, (fummidrake_entry){id, 9, 5, 1, 0, 0, 100}, 100, 100);
+        return entering(sheet, (fummidrake_entry){id, (uint16_t)(id - 1), 5, 0, 0, 0, 0, 500}, 500, 1000);
+    return entering(sheet, (fummidrake_entry){id, 9, 5, 1, 0, 0, 0, 100}, 100, 100);
 }
 
-static fummidrake_sheet sheet_of(uint16_t count) {
-    fummidrake_sheet sheet = fummidrake_open(LENGTH).sheet;
+/* A sheet of so many spaces, with a vessel number, and with a deck for each of them if that isn't 0. */
+static fummidrake_sheet sheet_of(uint16_t count, uint32_t vessel_number) {
+    fummidrake_sheet sheet = fummidrake_open(LENGTH, vessel_number).sheet;
     for (uint16_t id = 1; id <= count; id++) {
         input next = entering_space(sheet, id);
+        next.entry.deck = (uint8_t)(vessel_number ? id % 100 : 0);
         accepted(fummidrake_enter_on(&sheet, ENTRY(next)).number);
     }
     return sheet;
 }
 
-enum { ROOMS = 8, INPUTS = ROOMS + 3 };
+enum { ROOMS = 9, INPUTS = ROOMS + 3 };
 static input inputs[INPUTS];
 
 /* The U entered where it was withdrawn: upright; pointed at both ends, with no depth there; the same with area at the aft end. */
@@ -287,44 +312,54 @@ static void set_up(void) {
         section_depths[i] = 1500;
     for (size_t i = 0; i < SECTION_BREADTHS; i++)
         section_breadths[i] = 400;
-    fummidrake_sheet full = sheet_of(200), fewer = sheet_of(199), ring = full;
-    fummidrake_sheet withdrawn = full, marked = full, closed = fummidrake_open(0).sheet;
+    fummidrake_sheet full = sheet_of(200, 0), fewer = sheet_of(199, 0), numbered = sheet_of(200, VESSEL), ring = full;
+    fummidrake_sheet withdrawn = full, marked = full, closed = fummidrake_open(0, 0).sheet;
     accepted(fummidrake_withdraw_on(&withdrawn, 1));
     accepted(fummidrake_mark_on(&marked, 200, 0));
     fummidrake_sheet undone = withdrawn;
     accepted(fummidrake_undo_on(&undone));
     ring.spaces[2].kind = 5;
     ring.spaces[2].within = 9;
-    fummidrake_sheet sheets[ROOMS] = {full, full, fewer, withdrawn, undone, marked, ring, closed};
+    fummidrake_sheet sheets[ROOMS] = {full, full, fewer, withdrawn, undone, marked, ring, closed, numbered};
     for (size_t i = 0; i < ROOMS; i++) {
         inputs[i] = entering_space(sheets[i], 200);
         inputs[i].id = i % 2 ? 200 : 1;
     }
     set_up_under_decks(full);
-    accepted(fummidrake_write_on(&full, 1, day, DAY, LAST).number);
+    for (form = 1; form <= 2; form++)
+        accepted(fummidrake_write_on(&full, 1, form, days[form - 1], DAY, last()).number);
 }
 
-/* The most that a call takes on any of the inputs, of which it must accept one. */
+/* The most that a call takes on any of the inputs in a form, of which it must accept one. */
 static size_t most(size_t which) {
     size_t greatest = 0;
     bool once = false;
     for (size_t i = 0; i < INPUTS; i++)
-        for (int form = 0; form < 2; form++) {
+        for (int in_place = 0; in_place < 2; in_place++) {
             given = inputs[i];
-            size_t taken = taken_by(form ? calls[which].in_place : calls[which].by_value);
+            size_t taken = taken_by(in_place ? calls[which].in_place : calls[which].by_value);
             greatest = taken > greatest ? taken : greatest;
             once = once || number == 0;
         }
     if (!once)
-        printf("tools/stack.c: no %s is accepted\n", calls[which].name);
+        printf("tools/stack.c: no %s is accepted in form %d\n", calls[which].name, form);
     return once ? greatest : sizeof stack;
+}
+
+static size_t most_in_any_form(size_t which) {
+    size_t greatest = 0;
+    for (form = 1; form <= 2; form++) {
+        size_t taken = most(which);
+        greatest = taken > greatest ? taken : greatest;
+    }
+    return greatest;
 }
 
 int main(int words, char **word) {
     int faults = 0;
     set_up();
     for (size_t i = 0; i < sizeof calls / sizeof calls[0]; i++) {
-        size_t taken = most(i);
+        size_t taken = most_in_any_form(i);
         if (words > 1 && strcmp(word[1], "-v") == 0)
             printf("%-20s %6zu of %6zu bytes\n", calls[i].name, taken, calls[i].stated);
         if (taken > calls[i].stated) {

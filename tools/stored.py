@@ -32,6 +32,8 @@ def stored() -> dict[Path, bytes]:
         found[Path('crates', name, 'stdin')] = given
         found[Path('crates', name, 'stdout')] = printed.encode('ascii')
     found[Path('examples/barge.day')] = whole  # the file that the example barge's morning writes
+    size = dayfile.distance(dayfile.FORM_2, dayfile.last_trailer(whole).count)  # and its move into form 2
+    found[Path('examples/barge_form_2.day')] = dayfile.move(whole, dayfile.FORM_2, bytes(size), 0)[-1]
     barge = Path('examples/barge.txt').read_text()
     found[Path('examples/answers.txt')] = (morning(barge) + dayfile.listing(whole)).encode('ascii')
     found[Path('examples/tank_answers.txt')] = morning(Path('examples/tank.txt').read_text()).encode('ascii')

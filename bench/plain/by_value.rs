@@ -11,9 +11,9 @@ pub struct After<A> {
 type Changed = After<Result<(), Refusal>>;
 
 #[inline(never)]
-pub fn open(length: u32) -> Changed {
+pub fn open(length: u32, vessel: u32) -> Changed {
     let mut sheet = Sheet::CLOSED;
-    After { answer: sheet.open(length), sheet }
+    After { answer: sheet.open(length, vessel), sheet }
 }
 
 #[inline(never)]
@@ -57,8 +57,8 @@ pub fn report(sheet: Sheet, justified: u8) -> After<Result<Report, Refusal>> {
 }
 
 #[inline(never)]
-pub fn write(sheet: Sheet, justified: u8, buffer: &mut [u8], at: usize) -> After<Result<usize, Refusal>> {
-    After { answer: sheet.write(justified, buffer, at), sheet }
+pub fn write(sheet: Sheet, justified: u8, form: u8, buffer: &mut [u8], at: usize) -> After<Result<usize, Refusal>> {
+    After { answer: sheet.write(justified, form, buffer, at), sheet }
 }
 
 #[inline(never)]

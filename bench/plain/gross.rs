@@ -3,7 +3,7 @@ use super::measure::{nearest, Kind};
 use super::rules::{Space, Standing};
 use super::Refusal;
 
-#[derive(Clone, Copy)]
+#[derive(Clone, Copy, PartialEq, Eq)]
 pub struct Report {
     pub gross: u64,
     pub net: u64,

@@ -23,5 +23,6 @@ pub enum Refusal {
     WrongRecord,
     WrongSums,
     PointedWithArea,
+    NumberLost,
     NoM = 29,
 }

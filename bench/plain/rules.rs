@@ -14,7 +14,7 @@ pub enum Standing {
     Deducted,
 }
 
-/// A space as it stands.
+/// A space as it stands: 16 bytes, since a sheet is 200 of them, and copied often.
 #[derive(Clone, Copy)]
 pub struct Space {
     pub id: u16,
@@ -22,18 +22,21 @@ pub struct Space {
     pub within: u16,
     pub kind: Kind,
     pub standing: Standing,
-    /// Worked out at entry: it can't change, since a space that encloses a room isn't withdrawn.
-    pub level: u8,
-    /// A U's parts of depth, 4 or 6, where it was entered from offsets; else 0.
-    pub m: u8,
+    /// A room's level, worked out at entry: it can't change, since a space that encloses a room isn't withdrawn. A U's parts of depth, 4 or
+    /// 6, where it was entered from offsets. Else 0.
+    pub level_or_m: u8,
+    pub deck: u8,
     pub tonnage: u32,
     pub length: u32,
 }
+
+const _: () = assert!(size_of::<Space>() == 16);
 
 /// Places for spaces on a sheet.
 pub const PLACES: usize = 200;
 pub const GREATEST_ID: u16 = 9_999;
 const GREATEST_LEVEL: u8 = 8;
+const GREATEST_DECK: u32 = 99;
 
 impl Standing {
     pub fn of_code(code: u8) -> Option<Standing> {
@@ -49,12 +52,49 @@ impl Standing {
 
 impl Space {
     /// What lies in a place that was never used.
-    pub const NONE: Space =
-        Space { id: 0, within: 0, kind: Kind::Room, standing: Standing::Plain, level: 0, m: 0, tonnage: 0, length: 0 };
+    pub const NONE: Space = Space {
+        id: 0,
+        within: 0,
+        kind: Kind::Room,
+        standing: Standing::Plain,
+        level_or_m: 0,
+        deck: 0,
+        tonnage: 0,
+        length: 0,
+    };
 
     pub fn is_plain(&self) -> bool {
         self.standing == Standing::Plain
     }
+
+    /// A U, B, S or H is at level 1.
+    fn level(&self) -> u8 {
+        match self.kind {
+            Kind::Room => self.level_or_m,
+            _ => 1,
+        }
+    }
+
+    /// The same space, where it stands at a level.
+    pub fn at_level(self, level: u8) -> Space {
+        match self.kind {
+            Kind::Room => Space { level_or_m: level, ..self },
+            _ => self,
+        }
+    }
+
+    /// A U's parts of depth, 4 or 6, where it was entered from offsets; else 0.
+    pub fn m(&self) -> u8 {
+        match self.kind {
+            Kind::UnderDeck => self.level_or_m,
+            _ => 0,
+        }
+    }
+}
+
+/// Whether a deck number is in its range; 0 is none.
+pub fn is_deck(deck: u32) -> bool {
+    deck <= GREATEST_DECK
 }
 
 /// Which kind may have which standing.
@@ -139,7 +179,7 @@ pub fn judge_tank(row: &(impl Row + ?Sized), tank: &Space, fore: u32) -> Result<
     if under_deck.kind != Kind::UnderDeck {
         return Err(Refusal::CannotTake);
     }
-    let has_m = under_deck.m != 0;
+    let has_m = under_deck.m() != 0;
     let overfull = || row.tonnage_inside(under_deck) + tank.tonnage > under_deck.tonnage;
     if passes_end(under_deck.length, tank.length, fore) || has_m && overfull() {
         return Err(Refusal::WouldPass);
@@ -159,7 +199,7 @@ fn level_of_room(row: &(impl Row + ?Sized), room: &Space) -> Result<u8, Refusal>
     if enclosing.kind == Kind::Hatchway {
         return Err(Refusal::CannotTake);
     }
-    if enclosing.level == GREATEST_LEVEL {
+    if enclosing.level() == GREATEST_LEVEL {
         return Err(Refusal::TooDeep);
     }
     if !room.is_plain() && !row.plain_upward(enclosing) {
@@ -168,7 +208,7 @@ fn level_of_room(row: &(impl Row + ?Sized), room: &Space) -> Result<u8, Refusal>
     if row.tonnage_inside(enclosing) + room.tonnage > enclosing.tonnage {
         return Err(Refusal::WouldPass);
     }
-    Ok(enclosing.level + 1)
+    Ok(enclosing.level() + 1)
 }
 
 /// 6 and 9 of a U, B, S or H.

@@ -2,7 +2,9 @@
 use super::gross::{self, Report};
 use super::history::{Change, History};
 use super::measure::{is_tonnage_length, measured, End, Kind, Measured, Roundings};
-use super::rules::{judge_tank, level_of_entry, place_to_mark, place_to_withdraw, Row, Space, Standing, PLACES};
+use super::rules::{
+    is_deck, judge_tank, level_of_entry, place_to_mark, place_to_withdraw, Row, Space, Standing, PLACES,
+};
 use super::tanks::{self, Tank};
 use super::Refusal;
 
@@ -15,6 +17,7 @@ pub struct Entry {
     pub standing: u8,
     pub fore_end: u8,
     pub aft_end: u8,
+    pub deck: u8,
     pub length: u32,
 }
 
@@ -25,6 +28,8 @@ pub struct Sheet {
     pub(super) count: u8,
     /// The tonnage length.
     pub(super) length: u32,
+    /// The vessel number, 0 for none.
+    pub(super) vessel: u32,
     pub(super) spaces: [Space; PLACES],
     history: History,
 }
@@ -39,16 +44,17 @@ pub struct Counts {
 impl Sheet {
     /// A sheet not open.
     pub const CLOSED: Sheet =
-        Sheet { open: false, count: 0, length: 0, spaces: [Space::NONE; PLACES], history: History::EMPTY };
+        Sheet { open: false, count: 0, length: 0, vessel: 0, spaces: [Space::NONE; PLACES], history: History::EMPTY };
 
-    /// Opens this one anew with a tonnage length, or closes it.
-    pub fn open(&mut self, length: u32) -> Result<(), Refusal> {
+    /// Opens this one anew with a tonnage length and a vessel number, or closes it.
+    pub fn open(&mut self, length: u32, vessel: u32) -> Result<(), Refusal> {
         self.close();
         if !is_tonnage_length(length) {
             return Err(Refusal::OutsideItsRange);
         }
         self.open = true;
         self.length = length;
+        self.vessel = vessel;
         Ok(())
     }
 
@@ -56,6 +62,7 @@ impl Sheet {
         self.open = false;
         self.count = 0;
         self.length = 0;
+        self.vessel = 0;
         self.history.clear();
     }
 
@@ -65,14 +72,15 @@ impl Sheet {
         let standing = Standing::of_code(entry.standing).ok_or(Refusal::OutsideItsRange)?;
         let kind = Kind::of_code(entry.kind).ok_or(Refusal::OutsideItsRange)?;
         let ends = [entry.fore_end, entry.aft_end].map(End::of_code);
-        if kind == Kind::UnderDeck && ends.contains(&None) {
+        if kind == Kind::UnderDeck && ends.contains(&None) || !is_deck(entry.deck.into()) {
             return Err(Refusal::OutsideItsRange);
         }
         let Measured { tonnage, roundings, m, end_areas } =
             measured(kind, self.length, entry.length, heights, breadths)?;
         let within = if kind == Kind::Room { entry.within } else { 0 };
-        let mut space = Space { id: entry.id, within, kind, standing, level: 1, m, tonnage, length: entry.length };
-        space.level = level_of_entry(self.standing(), self.length, &space)?;
+        let Entry { id, deck, length, .. } = entry;
+        let new = Space { id, within, kind, standing, level_or_m: m, deck, tonnage, length };
+        let space = new.at_level(level_of_entry(self.standing(), self.length, &new)?);
         if ends.into_iter().zip(end_areas).any(|(end, area)| end == Some(End::Pointed) && area != 0) {
             return Err(Refusal::PointedWithArea);
         }
@@ -85,16 +93,16 @@ impl Sheet {
     pub fn enter_tank(&mut self, tank: Tank, depths: &[u32], breadths: &[u32]) -> Result<(), Refusal> {
         self.opened()?;
         let standing = Standing::of_code(tank.standing).ok_or(Refusal::OutsideItsRange)?;
-        if !tanks::in_range(tank.length, tank.fore, depths, breadths) {
+        if !is_deck(tank.deck.into()) || !tanks::in_range(tank.length, tank.fore, depths, breadths) {
             return Err(Refusal::OutsideItsRange);
         }
-        let measuring = |space: &&Space| space.m != 0 && !tanks::passes_end(space.length, tank.length, tank.fore);
+        let measuring = |space: &&Space| space.m() != 0 && !tanks::passes_end(space.length, tank.length, tank.fore);
         let tonnage = match self.standing().find(tank.within).filter(measuring) {
             Some(under_deck) => tanks::tonnage(self.length, under_deck, tank, depths, breadths)?,
             None => 0,
         };
-        let Tank { id, within, length, .. } = tank;
-        let space = Space { id, within, kind: Kind::Room, standing, level: 2, m: 0, tonnage, length };
+        let Tank { id, within, deck, length, .. } = tank;
+        let space = Space { id, within, kind: Kind::Room, standing, level_or_m: 2, deck, tonnage, length };
         judge_tank(self.standing(), &space, tank.fore)?;
         self.put_last(space);
         self.history.note(Change::Entered(space));
@@ -167,12 +175,17 @@ impl Sheet {
         self.length
     }
 
+    /// 0 on a sheet not open.
+    pub fn vessel(&self) -> u32 {
+        self.vessel
+    }
+
     /// The spaces that stand, in order of entry.
     pub fn standing(&self) -> &[Space] {
         &self.spaces[..usize::from(self.count)]
     }
 
-    fn opened(&self) -> Result<(), Refusal> {
+    pub(super) fn opened(&self) -> Result<(), Refusal> {
         if self.open {
             Ok(())
         } else {

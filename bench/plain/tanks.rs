@@ -11,6 +11,7 @@ pub struct Tank {
     pub id: u16,
     pub within: u16,
     pub standing: u8,
+    pub deck: u8,
     pub length: u32,
     pub fore: u32,
 }
@@ -41,7 +42,7 @@ pub fn tonnage(
     breadths: &[u32],
 ) -> Result<u32, Refusal> {
     let layout = Layout::of(tonnage_length, under_deck.length, tank.length, tank.fore);
-    let at_section = usize::from(under_deck.m) + 1;
+    let at_section = usize::from(under_deck.m()) + 1;
     let mut areas = [0; MOST_STATIONS];
     let mut asked = 0;
     let mut areas_of_sections = sections(depths, breadths, at_section).map(|section| section.area);

@@ -31,13 +31,14 @@ static void print_zones(uint32_t length, uint32_t fore) {
     printf("%s\n", laid_out.sections ? "" : "-");
 }
 
-/* Prints what stands: open or not, the tonnage length, how many, and each space. */
+/* Prints what stands: open or not, the tonnage length, how many, the vessel number, and each space. */
 static void print_spaces(const fummidrake_sheet *sheet) {
     size_t count = fummidrake_standing_count(*sheet);
     printf("spaces 0 %d %u %zu", fummidrake_is_open(*sheet), fummidrake_tonnage_length(*sheet), count);
+    printf(" %u", fummidrake_vessel(*sheet));
     for (size_t place = 0; place < count; place++) {
         fummidrake_space x = fummidrake_space_at(*sheet, place);
-        printf(" %d:%d:%d:%d:%u:%u:%d", x.id, x.within, x.kind, x.standing, x.tonnage, x.length, x.m);
+        printf(" %d:%d:%d:%d:%u:%u:%d:%d", x.id, x.within, x.kind, x.standing, x.tonnage, x.length, x.m, x.deck);
     }
     printf("\n");
 }
@@ -99,19 +100,19 @@ static void measure_again(fummidrake_sheet *sheet) {
 }
 
 int main(void) {
-    fummidrake_changed opened = fummidrake_open(LENGTH);
+    fummidrake_changed opened = fummidrake_open(LENGTH, 0);
     answered("open", opened.number);
     fummidrake_sheet sheet = opened.sheet;
     measure(&sheet);
 
     uint8_t file[60] = {0};
-    fummidrake_written_on written = fummidrake_write_on(&sheet, 0, file, sizeof file, 0);
+    fummidrake_written_on written = fummidrake_write_on(&sheet, 0, 1, file, sizeof file, 0);
     printf("write %d %zu ", written.number, written.bytes);
     for (size_t i = 0; i < sizeof file; i++)
         printf("%02x", file[i]);
     printf("\n");
     fummidrake_reading reading = fummidrake_read(file, sizeof file);
-    printf("read %d %zu %d %zu\n", reading.number, reading.position, reading.justified, reading.start);
+    printf("read %d %zu %d %zu %d\n", reading.number, reading.position, reading.justified, reading.start, reading.form);
     measure_again(&reading.sheet);
     return 0;
 }

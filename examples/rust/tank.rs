@@ -4,12 +4,12 @@
 #[path = "../../rust/fummidrake.rs"]
 mod fummidrake;
 
-use fummidrake::{lay_out, read, section_station, Changed, Entering, Entry, Sheet, Tank};
+use fummidrake::{lay_out, read, section_station, Changed, Entering, Entry, Reading, Sheet, Tank};
 
 const LENGTH: u32 = 3600;
 /// An end where bow or stern is upright, as this barge's are: its section counts with the area it has.
 const UPRIGHT: u8 = 2;
-const TANK: Tank = Tank { id: 2, within: 1, standing: 2, length: 1200, fore: 800 };
+const TANK: Tank = Tank { id: 2, within: 1, standing: 2, deck: 0, length: 1200, fore: 800 };
 
 /// The breadths of the under-deck part at each station, from above.
 const STATIONS: [[u32; 5]; 7] = [
@@ -62,11 +62,12 @@ fn print_zones(length: u32, fore: u32) {
     println!("zones {} {} {}", laid_out.number, laid_out.parts, joined(&stations));
 }
 
-/// Prints what stands: open or not, the tonnage length, how many, and each space.
+/// Prints what stands: open or not, the tonnage length, how many, the vessel number, and each space.
 fn print_spaces(sheet: &Sheet) {
-    print!("spaces 0 {} {} {}", sheet.is_open() as u8, sheet.tonnage_length(), sheet.standing_count());
+    let (open, length, count) = (sheet.is_open() as u8, sheet.tonnage_length(), sheet.standing_count());
+    print!("spaces 0 {open} {length} {count} {}", sheet.vessel());
     for x in sheet.spaces() {
-        print!(" {}:{}:{}:{}:{}:{}:{}", x.id, x.within, x.kind, x.standing, x.tonnage, x.length, x.m);
+        print!(" {}:{}:{}:{}:{}:{}:{}:{}", x.id, x.within, x.kind, x.standing, x.tonnage, x.length, x.m, x.deck);
     }
     println!();
 }
@@ -111,12 +112,13 @@ fn measured_again(mut sheet: Sheet) -> Sheet {
 }
 
 fn main() {
-    let sheet = measured(answered("open", Sheet::open(LENGTH)));
+    let sheet = measured(answered("open", Sheet::open(LENGTH, 0)));
     let mut file = [0; 60];
-    let written = sheet.write(0, &mut file, 0);
+    let written = sheet.write(0, 1, &mut file, 0);
     let hex: String = file.iter().map(|byte| format!("{byte:02x}")).collect();
     println!("write {} {} {hex}", written.number, written.bytes);
     let reading = read(&file);
-    println!("read {} {} {} {}", reading.number, reading.position, reading.justified, reading.start);
-    let _ = measured_again(reading.sheet);
+    let Reading { number, position, justified, start, form, sheet } = reading;
+    println!("read {number} {position} {justified} {start} {form}");
+    let _ = measured_again(sheet);
 }

@@ -2,7 +2,9 @@
 pub mod Stores
 pub mod Numbers
 pub mod Fields
+pub mod Forms
 pub mod Record
 pub mod Trailer
 pub mod Writing
 pub mod Reading
+pub mod Moving

@@ -10,10 +10,16 @@ use Rattle.dayfile.specs.Writing.{sheetBytes}
 use Rattle.dayfile.specs.Reading.{readOf}
 use Rattle.dayfile.specs.declared.reading.Reading.{Reading}
 
--- sheets, each with its justified mark, written one after another
-abbrev pub dayBytes : List (Sheet × ℕ) → List ℕ
+-- a sheet as it is written: with its justified mark, in a form
+pub record SheetWritten : Type 0 where
+  pub sheet : Sheet
+  pub justified : ℕ
+  pub form : ℕ
+
+-- such sheets one after another
+abbrev pub dayBytes : List SheetWritten → List ℕ
 dayBytes [] = []
-dayBytes (first ∷ later) = sheetBytes (first .0) (first .1) ++ dayBytes later
+dayBytes (first ∷ later) = sheetBytes (first .sheet) (first .justified) (first .form) ++ dayBytes later
 
 -- "the bytes ahead of that start are the earlier sheets, read the same way": the readings of at most n sheets of a file, the last
 -- first, up to one that is refused

@@ -1,17 +1,24 @@
 -- What the functions inside the crate ask and tell one another. No promise of a public function cites anything here.
 use Prim.Native.Nat.{ℕ, _^_, _≤_, _<_}
 use mathlib.Core.Path.{_≡_}
-use mathlib.Core.Bool.{cond}
-use mathlib.Core.List.{List, [], _∷_}
+use mathlib.Core.Bool.{cond, _||_}
+use mathlib.Core.List.{List, [], _∷_, _++_}
 use lib.Dec.{eqb}
+use lib.ListN.{length}
 use Rattle.measure.specs.Refusals.{firstOf}
 use Rattle.spaces.specs.Space.{emptySpace}
 use Rattle.spaces.specs.declared.space.Space.{Space}
+use Rattle.sheet.specs.Calls.{figuresOf}
+use Rattle.sheet.specs.declared.calls.Figures.{Figures}
 use Rattle.sheet.specs.declared.sheet.Sheet.{Sheet}
 use Rattle.dayfile.specs.Numbers.{numberOf}
 use Rattle.dayfile.specs.Fields.{fitting}
-use Rattle.dayfile.specs.Record.{recordFields, spaceOf}
+use Rattle.dayfile.specs.Forms.{isForm, formOf, lost}
+use Rattle.dayfile.specs.Record.{recordFields, records, spaceOf}
+use Rattle.dayfile.specs.Trailer.{vesselBytes, trailerBytes, sheetSize}
+use Rattle.dayfile.specs.Writing.{losesDeck, tooLittleRoom, placed}
 use Rattle.dayfile.specs.Reading.{trailerTests, acceptedReading, refusedReading}
+use Rattle.dayfile.specs.declared.forms.Form.{Form}
 use Rattle.dayfile.specs.declared.trailer.Trailer.{Trailer}
 use Rattle.dayfile.specs.declared.reading.Reading.{Reading}
 use Rattle.dayfile.specs.declared.writing.Stored.{Stored}
@@ -27,19 +34,54 @@ abbrev pub Narrow : List ℕ → Type 0
 Narrow [] = Unit
 Narrow (w ∷ ws) = (w ≤ 8) × Narrow ws
 
--- a record as it is handed to the sheet: an empty one, which entry refuses, where a number is outside its range
-unfoldable pub readAs : List ℕ → Space
-readAs numbers = cond (fitting recordFields numbers) (spaceOf numbers) emptySpace
+-- the most bytes that a record, and what stands behind the records, can have, whatever bytes say their widths: 16 + 255 + 255, and 255 + 28
+abbrev pub mostRecord : ℕ
+mostRecord = 526
 
-abbrev pub eachReadAs : List (List ℕ) → List Space
-eachReadAs [] = []
-eachReadAs (numbers ∷ rest) = readAs numbers ∷ eachReadAs rest
+abbrev pub mostEnd : ℕ
+mostEnd = 283
+
+-- a record as it is handed to the sheet: an empty one, which entry refuses, where a number is outside its range
+unfoldable pub readAs : Form → List ℕ → Space
+readAs f numbers = cond (fitting (recordFields f) numbers) (spaceOf numbers) emptySpace
+
+abbrev pub eachReadAs : Form → List (List ℕ) → List Space
+eachReadAs f [] = []
+eachReadAs f (numbers ∷ rest) = readAs f numbers ∷ eachReadAs f rest
 
 -- what reading answers once the records are accepted
 unfoldable pub judgedReading : Sheet → Trailer → ℕ → Reading
 judgedReading s t start =
     let n = firstOf (trailerTests s t) in
-    cond (eqb n 0) (acceptedReading s (t .justified) start) (refusedReading n 0)
+    cond (eqb n 0) (acceptedReading s (t .justified) start (t .form)) (refusedReading n 0)
+
+-- ---- writing
+
+-- the number of a write by that of its report and its form: 1, 2, 13 or 14
+abbrev pub formRefusal : (report form : ℕ) → ℕ
+formRefusal report form = cond (eqb report 1) 1 (cond (isForm form) report 2)
+
+-- a report of the sheet is given, with these figures
+pub record Reports (s : Sheet) (justified : ℕ) (r : Figures) : Type 0 where
+  pub are : r ≡ figuresOf s justified
+  pub given : r .number ≡ 0
+
+-- 20, 15 or 0 of a trailer, a vessel number and the spaces that the trailer counts
+abbrev pub storeNumber : Trailer → ℕ → List Space → ℕ → ℕ → ℕ
+storeNumber t vessel xs size at =
+    let f = formOf (t .form) in
+    firstOf ((lost (f .vessel) vessel || losesDeck f xs, 20) ∷ (tooLittleRoom f (t .count) size at, 15) ∷ [])
+
+abbrev pub stored : Trailer → ℕ → List Space → ℕ → ℕ → Stored
+stored t vessel xs size at =
+    let n = storeNumber t vessel xs size at in
+    record { number = n; bytes = cond (eqb n 0) (sheetSize (formOf (t .form)) (t .count)) 0 }
+
+-- the whole buffer afterwards
+abbrev pub storedInto : Trailer → ℕ → List Space → ℕ → List ℕ → List ℕ
+storedInto t vessel xs at buffer =
+    let f = formOf (t .form) in
+    cond (eqb (storeNumber t vessel xs (length buffer) at) 0) (placed buffer at (records f xs ++ (vesselBytes f vessel ++ trailerBytes t))) buffer
 
 -- what a write answers, with the sheet handed back
 abbrev pub handedBack : Stored → Sheet → Written

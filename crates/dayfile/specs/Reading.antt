@@ -5,19 +5,20 @@ use mathlib.Core.Bool.{Bool, true, false, cond, not, _||_}
 use mathlib.Core.List.{List, [], _∷_, _++_}
 use lib.Dec.{eqb, ltb}
 use lib.ListN.{length, take, drop, getD}
-use Rattle.measure.specs.Volumes.{hundredths}
 use Rattle.measure.specs.declared.units.Hundredths.{Hundredths}
 use Rattle.measure.specs.Refusals.{firstOf}
 use Rattle.standard.specs.Gross.{gross, net}
 use Rattle.spaces.specs.declared.space.Space.{Space}
-use Rattle.sheet.specs.Sheet.{standing, blank}
+use Rattle.sheet.specs.Sheet.{standing, blank, notOpen}
 use Rattle.sheet.specs.Changes.{withStanding}
 use Rattle.sheet.specs.Calls.{reported}
 use Rattle.standard.specs.Records.{recordNumber}
 use Rattle.sheet.specs.declared.sheet.Sheet.{Sheet}
 use Rattle.dayfile.specs.Fields.{fitting}
+use Rattle.dayfile.specs.Forms.{formOf}
 use Rattle.dayfile.specs.Record.{recordFields, recordsIn, spaceOf, spacesOf}
-use Rattle.dayfile.specs.Trailer.{trailerSize, sheetSize, trailerNumbers, trailerRight, trailerOf}
+use Rattle.dayfile.specs.Trailer.{trailerSize, sheetSize, trailerNumbers, trailerRight, trailerOf, vesselIn}
+use Rattle.dayfile.specs.declared.forms.Form.{Form}
 use Rattle.dayfile.specs.declared.trailer.Trailer.{Trailer}
 use Rattle.dayfile.specs.declared.reading.Reading.{Reading}
 
@@ -37,35 +38,44 @@ noSheet file =
 abbrev pub lastTrailer : List ℕ → Trailer
 lastTrailer file = trailerOf (lastNumbers file)
 
+-- "Readers take either form": the one that the trailer tells
+abbrev pub lastForm : List ℕ → Form
+lastForm file = formOf (lastTrailer file .form)
+
 -- where the last sheet starts
 abbrev pub startOf : List ℕ → ℕ
-startOf file = length file - sheetSize (lastTrailer file .count)
+startOf file = length file - sheetSize (lastForm file) (lastTrailer file .count)
 
 -- ---- 17
 
 -- "a record with a nonzero zero field, a wrong kind, a number outside its range, a U, B, S or H with an enclosing id, or one that
--- entry would refuse", after the spaces `before`, where L is the tonnage length
-abbrev pub faulty : Hundredths → List Space → List ℕ → Bool
-faulty L before numbers = not (fitting recordFields numbers) || not (eqb (recordNumber L before (spaceOf numbers)) 0)
+-- entry would refuse", after the spaces `before`, where f is the form and L the tonnage length
+abbrev pub faulty : Form → Hundredths → List Space → List ℕ → Bool
+faulty f L before numbers = not (fitting (recordFields f) numbers) || not (eqb (recordNumber L before (spaceOf numbers)) 0)
 
 -- "the position, from 1, of the first such record"; 0 where there is none
-abbrev pub firstFaulty : Hundredths → List Space → List (List ℕ) → ℕ
-firstFaulty L before [] = 0
-firstFaulty L before (numbers ∷ rest) =
-    cond (faulty L before numbers) (length before + 1) (firstFaulty L (before ++ (spaceOf numbers ∷ [])) rest)
+abbrev pub firstFaulty : Form → Hundredths → List Space → List (List ℕ) → ℕ
+firstFaulty f L before [] = 0
+firstFaulty f L before (numbers ∷ rest) =
+    cond (faulty f L before numbers) (length before + 1) (firstFaulty f L (before ++ (spaceOf numbers ∷ [])) rest)
 
 -- the records of the last sheet
 abbrev pub lastRecords : List ℕ → List (List ℕ)
-lastRecords file = recordsIn (lastTrailer file .count) (drop (startOf file) file)
+lastRecords file = recordsIn (lastForm file) (lastTrailer file .count) (drop (startOf file) file)
 
 unfoldable pub faultIn : List ℕ → ℕ
-faultIn file = firstFaulty (lastTrailer file .«tonnage_length») [] (lastRecords file)
+faultIn file = firstFaulty (lastForm file) (lastTrailer file .«tonnage_length») [] (lastRecords file)
 
 -- ---- 13, 14 and 18
 
+-- the vessel number of the last sheet
+abbrev pub lastVessel : List ℕ → ℕ
+lastVessel file = vesselIn (lastForm file) file
+
 -- "The sheet read is open, with no open changes."
 unfoldable pub sheetIn : List ℕ → Sheet
-sheetIn file = withStanding (spacesOf (lastRecords file)) (blank true (lastTrailer file .«tonnage_length»))
+sheetIn file =
+    withStanding (spacesOf (lastRecords file)) (blank true (lastTrailer file .«tonnage_length») (lastVessel file))
 
 abbrev pub trailerTests : Sheet → Trailer → List (Bool × ℕ)
 trailerTests s t =
@@ -85,19 +95,20 @@ readNumber file =
     ∷ (not (eqb (faultIn file) 0), 17)
     ∷ trailerTests (sheetIn file) (lastTrailer file))
 
--- "A refused open or read hands back a sheet not open, mark 0, start 0." "The position is 0 for every number but 17."
+-- "A refused open or read hands back a sheet not open, mark 0, start 0", and form 0. "The position is 0 for every number but 17."
 unfoldable pub refusedReading : ℕ → ℕ → Reading
 refusedReading number position =
-    record { number = number; position = position; sheet = blank false (hundredths 0); justified = 0; start = 0 }
+    record { number = number; position = position; sheet = notOpen; justified = 0; start = 0; form = 0 }
 
--- "It answers the sheet, the justified mark and where the sheet starts"
-abbrev pub acceptedReading : Sheet → ℕ → ℕ → Reading
-acceptedReading s justified start = record { number = 0; position = 0; sheet = s; justified = justified; start = start }
+-- "It answers the sheet, the justified mark and where the sheet starts"; "Readers take either form and answer it"
+abbrev pub acceptedReading : Sheet → ℕ → ℕ → ℕ → Reading
+acceptedReading s justified start form =
+    record { number = 0; position = 0; sheet = s; justified = justified; start = start; form = form }
 
 unfoldable pub readOf : List ℕ → Reading
 readOf file =
     cond (eqb (readNumber file) 0)
-    (acceptedReading (sheetIn file) (lastTrailer file .justified) (startOf file))
+    (acceptedReading (sheetIn file) (lastTrailer file .justified) (startOf file) (lastTrailer file .form))
     (refusedReading (readNumber file) (cond (eqb (readNumber file) 17) (faultIn file) 0))
 
 -- "the bytes ahead of that start are the earlier sheets, read the same way"
@@ -111,4 +122,4 @@ pub record ReadingAccepted (file : List ℕ) : Type 0 where
   pub reports : reported (sheetIn file) (lastTrailer file .justified) .number ≡ 0
   pub gross-is : gross (standing (sheetIn file)) ≡ lastTrailer file .gross
   pub net-is : net (standing (sheetIn file)) ≡ lastTrailer file .net
-  pub reading-is : readOf file ≡ acceptedReading (sheetIn file) (lastTrailer file .justified) (startOf file)
+  pub reading-is : readOf file ≡ acceptedReading (sheetIn file) (lastTrailer file .justified) (startOf file) (lastTrailer file .form)

@@ -1,4 +1,5 @@
 // Reading the last sheet of a file, whatever its bytes ("Reading judges the last sheet only").
+use crate::forms::form_of;
 use crate::record::read_records;
 use crate::refusals::NO_SHEET;
 use crate::refusals::WRONG_FIGURES;
@@ -6,6 +7,7 @@ use crate::refusals::WRONG_RECORD;
 use crate::trailer::TRAILER_SIZE;
 use crate::trailer::Trailer;
 use crate::trailer::read_trailer;
+use crate::trailer::read_vessel;
 use crate::trailer::sheet_size;
 use crate::trailer::trailer_of;
 use crate::trailer::trailer_right;
@@ -16,8 +18,8 @@ ghost use lib.ListN.{take, drop};
 ghost use Rattle.dayfile.specs.Reading.{noSheet, lastTrailer, refusedReading, readOf, readBefore};
 ghost use Rattle.dayfile.specs.Handed.{judgedReading};
 
-// The paper's number, 0 where accepted, and the position of the record where it is 17; then the sheet, its justified mark
-// and where it starts.
+// The paper's number, 0 where accepted, and the position of the record where it is 17; then the sheet, its justified mark,
+// where it starts, and the form it has there, 1 or 2.
 #[repr(C)]
 pub struct Reading {
     pub number: u8,
@@ -25,6 +27,7 @@ pub struct Reading {
     pub sheet: Sheet,
     pub justified: u8,
     pub start: usize,
+    pub form: u8,
 }
 
 // Reads the last sheet of a file.
@@ -35,10 +38,12 @@ pub fn read(file: &[u8]) -> Reading
         return refused(NO_SHEET, 0);
     }
     let trailer = last_trailer(file);
+    let form = form_of(trailer.form);
     let count = trailer.count;
-    let start = file.len() - sheet_size(count);
-    let spaces = read_records(part_from(file, start), count);
-    let resumed = Sheet::resume(trailer.tonnage_length, spaces, count);
+    let start = file.len() - sheet_size(form, count);
+    let spaces = read_records(part_from(file, start), form, count);
+    let vessel = read_vessel(file, form);
+    let resumed = Sheet::resume(trailer.tonnage_length, vessel, spaces, count);
     if resumed.position != 0 {
         return refused(WRONG_RECORD, resumed.position);
     }
@@ -83,14 +88,14 @@ fn last_trailer(file: &[u8]) -> Trailer
 fn judged(sheet: Sheet, trailer: Trailer, start: usize) -> Reading
     ensures { λ r. ⌜ r ≡ judgedReading sheet trailer start ⌝ }
 {
-    let report = sheet.report(trailer.justified);
-    if report.number != 0 {
-        return refused(report.number, 0);
+    let figures = sheet.figures(trailer.justified);
+    if figures.number != 0 {
+        return refused(figures.number, 0);
     }
-    if report.gross != trailer.gross {
+    if figures.gross != trailer.gross {
         return refused(WRONG_FIGURES, 0);
     }
-    if report.net != trailer.net {
+    if figures.net != trailer.net {
         return refused(WRONG_FIGURES, 0);
     }
     Reading {
@@ -99,10 +104,11 @@ fn judged(sheet: Sheet, trailer: Trailer, start: usize) -> Reading
         sheet,
         justified: trailer.justified,
         start,
+        form: trailer.form,
     }
 }
 
-// "A refused open or read hands back a sheet not open, mark 0, start 0."
+// "A refused open or read hands back a sheet not open, mark 0, start 0", and form 0.
 fn refused(number: u8, position: usize) -> Reading
     ensures { λ r. ⌜ r ≡ refusedReading number position ⌝ }
 {
@@ -112,6 +118,7 @@ fn refused(number: u8, position: usize) -> Reading
         sheet: Sheet::closed(),
         justified: 0,
         start: 0,
+        form: 0,
     }
 }
 

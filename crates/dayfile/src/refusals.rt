@@ -1,4 +1,4 @@
-// The numbers of refusal of writing and reading ("Numbers of refusal").
+// The numbers of refusal of writing, reading and moving ("Numbers of refusal", and T-05 of document 02).
 
 // Buffer has too little room from the named place.
 pub const NO_ROOM: u8 = 15;
@@ -11,3 +11,6 @@ pub const WRONG_RECORD: u8 = 17;
 
 // Gross or net isn't what the records give.
 pub const WRONG_FIGURES: u8 = 18;
+
+// Form 1 would lose the vessel number or a deck.
+pub const LOSES_NUMBER: u8 = 20;

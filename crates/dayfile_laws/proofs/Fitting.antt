@@ -2,7 +2,8 @@
 use Prim.Native.Nat.{ℕ, zero, suc, _*_, _≤_}
 use mathlib.Core.Path.{_≡_, refl, ap}
 use mathlib.Core.Bool.{true, false, not, _||_}
-use mathlib.Core.List.{List}
+use mathlib.Core.List.{List, [], _∷_, List·Memᴰ·not-nil, List·Memᴰ·cases-cons}
+use mathlib.Core.Logic.{⊎-elim}
 use native.Mathlib.Nat.{le-trans}
 use native.Mathlib.Omega.{arith}
 use borrow.Author.Tests.{not-false, ltb-true, ltb-false, leb-true, eqb-true}
@@ -28,8 +29,12 @@ use Rattle.spaces_laws.proofs.Valid.{Sound, valid-is-sound}
 use Rattle.spaces_laws.proofs.Report.{net-at-most-gross, gross-bounded}
 use Rattle.standard.specs.Records.{misrecorded}
 use Rattle.sheet_laws.proofs.Resumable.{Resumable}
+use Rattle.dayfile.specs.Forms.{formOf, lost}
 use Rattle.dayfile.specs.Record.{recordFields, numbersOf}
+use Rattle.dayfile.specs.Writing.{losesDeck}
+use Rattle.dayfile.specs.declared.forms.Form.{Form}
 use Rattle.dayfile_laws.proofs.Fields.{InFields, fitting-of}
+use Rattle.dayfile_laws.proofs.Forms.{held-in}
 use Rattle.dayfile_laws.proofs.Records.{Fits}
 
 -- the lengths of every kind
@@ -62,22 +67,32 @@ standing-at-most kind taken e =
 -- what `misrecorded` leaves of one that an entry could have made
 record RightlyRecorded (x : Space) : Type 0 where
   tonnage-at-most : x .tonnage ≤ mostTons
+  deck-at-most : x .deck ≤ 99
   length-at-least : 1 ≤ x .length .0
   length-at-most : x .length .0 ≤ 150000
   no-enclosing-id : isRoom x ≡ false → x .within ≡ 0
 
 record-facts : (x : Space) → misrecorded x ≡ false → RightlyRecorded x
 record-facts x e =
-    let a = or-fails (ltb 100000000 (x .tonnage) || not (includes (lengths (kindOf (x .kind))) (x .length .0))) _ e in
-    let b = or-fails (ltb 100000000 (x .tonnage)) _ (a .0) in
+    let a = or-fails (ltb 100000000 (x .tonnage) || ltb 99 (x .deck) || not (includes (lengths (kindOf (x .kind))) (x .length .0))) _ e in
+    let b = or-fails (ltb 100000000 (x .tonnage) || ltb 99 (x .deck)) _ (a .0) in
+    let c = or-fails (ltb 100000000 (x .tonnage)) _ (b .0) in
     let l = in-range (lengths (kindOf (x .kind))) (x .length .0) (not-false _ (b .1)) in
     let k = every-length (kindOf (x .kind)) in
     record {
-      tonnage-at-most = ltb-false _ _ (b .0);
+      tonnage-at-most = ltb-false _ _ (c .0);
+      deck-at-most = ltb-false _ _ (c .1);
       length-at-least = le-trans (k .0) (l .0);
       length-at-most = le-trans (l .1) (k .1);
       no-enclosing-id = λ f. eqb-true _ 0 (not-false _ (and-fails (not (isRoom x)) _ (a .1) (ap not f)));
     }
+
+-- where no deck is lost, that of each space isn't
+pub deck-kept : (f : Form) {xs : List Space} → losesDeck f xs ≡ false → {y : Space} → y ∈ xs → lost (f .deck) (y .deck) ≡ false
+deck-kept f {xs = []} none-lost m = absurd (List·Memᴰ·not-nil m)
+deck-kept f {xs = x ∷ xs} none-lost {y} m =
+    let o = or-fails (lost (f .deck) (x .deck)) (losesDeck f xs) none-lost in
+    ⊎-elim (λ (q : y ≡ x). rw q (o .0)) (λ (k : y ∈ xs). deck-kept f (o .1) k) (List·Memᴰ·cases-cons m)
 
 -- ---- all numbers of records that are accepted
 
@@ -98,11 +113,12 @@ module _ {L : Hundredths} {xs : List Space} (a : Resumable L xs) where
       omega (arith, found .1, sound .member (home .home) (found .0) .id-at-most))
       (λ f. omega (arith, recorded m .no-enclosing-id f))
 
-  pub each-fits : (y : Space) → y ∈ xs → Fits y
-  each-fits y m =
+  -- all numbers fit a form that loses no deck
+  pub each-fits : (form : ℕ) → losesDeck (formOf form) xs ≡ false → (y : Space) → y ∈ xs → Fits form y
+  each-fits form none-lost y m =
       let o = sound .member y m in
       let r = recorded m in
-      let facts : InFields recordFields (numbersOf y) =
+      let facts : InFields (recordFields (formOf form)) (numbersOf y) =
       omega (
         arith,
         o .id-at-least,
@@ -114,8 +130,9 @@ module _ {L : Hundredths} {xs : List Space} (a : Resumable L xs) where
         r .tonnage-at-most,
         r .length-at-least,
         r .length-at-most,
+        held-in (formOf form .deck) (y .deck) 99 (deck-kept (formOf form) none-lost m) (r .deck-at-most),
       ) in
-      fitting-of recordFields (numbersOf y) facts
+      fitting-of (recordFields (formOf form)) (numbersOf y) facts
 
   -- 200 times 100,000,000 is far below 2 ^ 64
   pub gross-at-most : gross xs ≤ 200 * mostTons

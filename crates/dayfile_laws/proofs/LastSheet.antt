@@ -13,9 +13,11 @@ use lib.ListN.{length, take, drop, getD, length-append, length-drop, take-append
 use lib.Seq.{length-take-le, drop-append-seam, drop-append-add}
 use Rattle.measure.specs.Refusals.{firstOf}
 use Rattle.spaces.proofs.laws.Cases.{by-test}
+use Rattle.dayfile.specs.Numbers.{numberOf}
+use Rattle.dayfile.specs.Forms.{formOf}
 use Rattle.dayfile.specs.Record.{recordsIn, spacesOf}
-use Rattle.dayfile.specs.Trailer.{trailerSize, sheetSize, trailerNumbers, trailerRight, trailerOf}
-use Rattle.dayfile.specs.Reading.{lastNumbers, lastTrailer, startOf, lastRecords, noSheet, firstFaulty, faultIn, sheetIn, trailerTests, readNumber, acceptedReading, refusedReading, readOf}
+use Rattle.dayfile.specs.Trailer.{trailerSize, endSize, sheetSize, trailerNumbers, trailerRight, trailerOf, vesselIn}
+use Rattle.dayfile.specs.Reading.{lastNumbers, lastTrailer, lastForm, startOf, lastRecords, lastVessel, noSheet, firstFaulty, faultIn, sheetIn, trailerTests, readNumber, acceptedReading, refusedReading, readOf}
 use Rattle.dayfile.specs.declared.reading.Reading.{Reading}
 use Rattle.dayfile.proofs.laws.Trailer.{distance-is}
 use Rattle.dayfile.proofs.laws.Reading.{by-distance, wrong-trailer, Framed, framed}
@@ -24,13 +26,16 @@ use Rattle.dayfile_laws.specs.Day.{sheetWith}
 
 -- ---- the trailer at the end of some bytes
 
+-- the last n bytes are the same with any others before them
+pub same-last : (pre end : List ℕ) (n : ℕ) → n ≤ length end → drop (length (pre ++ end) - n) (pre ++ end) ≡ drop (length end - n) end
+same-last pre end n long =
+    let cut : length (pre ++ end) - n ≡ length pre + (length end - n) = omega (arith, length-append pre end) in
+    ap (λ (k : ℕ). drop k (pre ++ end)) cut ∙ drop-append-add pre end (length end - n)
+
 module _ (pre end : List ℕ) (long : trailerSize ≤ length end) where
-  -- is that of the bytes with any others before them
+  -- and so is the trailer
   pub same-numbers : lastNumbers (pre ++ end) ≡ lastNumbers end
-  same-numbers =
-      let cut : length (pre ++ end) - trailerSize ≡ length pre + (length end - trailerSize) = omega (arith, length-append pre end) in
-      ap (λ (n : ℕ). trailerNumbers (drop n (pre ++ end))) cut
-      ∙ ap trailerNumbers (drop-append-add pre end (length end - trailerSize))
+  same-numbers = ap trailerNumbers (same-last pre end trailerSize long)
 
   -- so a wrong one stays wrong
   pub wrong-behind : trailerRight (lastNumbers end) ≡ false → noSheet (pre ++ end) ≡ true
@@ -41,13 +46,13 @@ module _ (pre end : List ℕ) (long : trailerSize ≤ length end) where
 -- its trailer is right, and points back to its first byte
 pub record WholeSheet (sheet : List ℕ) : Type 0 where
   pub right : trailerRight (lastNumbers sheet) ≡ true
-  pub size-is : length sheet ≡ sheetSize (lastTrailer sheet .count)
+  pub size-is : length sheet ≡ sheetSize (lastForm sheet) (lastTrailer sheet .count)
 
 module _ {sheet : List ℕ} (w : WholeSheet sheet) (pre : List ℕ) where
   abbrev file : List ℕ
   file = pre ++ sheet
 
-  length-file : length file ≡ length pre + sheetSize (lastTrailer sheet .count)
+  length-file : length file ≡ length pre + sheetSize (lastForm sheet) (lastTrailer sheet .count)
   length-file = length-append pre sheet ∙ ap (λ (n : ℕ). length pre + n) (w .size-is)
 
   numbers-behind : lastNumbers file ≡ lastNumbers sheet
@@ -57,13 +62,19 @@ module _ {sheet : List ℕ} (w : WholeSheet sheet) (pre : List ℕ) where
   trailer-behind = ap trailerOf numbers-behind
 
   pub starts-behind : startOf file ≡ length pre
-  starts-behind = ap (λ t. length file - sheetSize (t .count)) trailer-behind ∙ omega (arith, length-file)
+  starts-behind = ap (λ t. length file - sheetSize (formOf (t .form)) (t .count)) trailer-behind ∙ omega (arith, length-file)
 
-  pub records-behind : lastRecords file ≡ recordsIn (lastTrailer sheet .count) sheet
+  pub records-behind : lastRecords file ≡ recordsIn (lastForm sheet) (lastTrailer sheet .count) sheet
   records-behind =
-      ap (λ t. recordsIn (t .count) (drop (startOf file) file)) trailer-behind
-      ∙ ap (λ (n : ℕ). recordsIn (lastTrailer sheet .count) (drop n file)) starts-behind
-      ∙ ap (λ (bytes : List ℕ). recordsIn (lastTrailer sheet .count) bytes) (drop-append-seam pre sheet)
+      ap (λ t. recordsIn (formOf (t .form)) (t .count) (drop (startOf file) file)) trailer-behind
+      ∙ ap (λ (n : ℕ). recordsIn (lastForm sheet) (lastTrailer sheet .count) (drop n file)) starts-behind
+      ∙ ap (λ (bytes : List ℕ). recordsIn (lastForm sheet) (lastTrailer sheet .count) bytes) (drop-append-seam pre sheet)
+
+  pub vessel-behind : lastVessel file ≡ lastVessel sheet
+  vessel-behind =
+      let f = lastForm sheet in
+      ap (λ t. vesselIn (formOf (t .form)) file) trailer-behind
+      ∙ ap (λ (bytes : List ℕ). numberOf (take (f .vessel) bytes)) (same-last pre sheet (endSize f) (omega (arith, w .size-is)))
 
   pub framed-behind : noSheet file ≡ false
   framed-behind =
@@ -82,7 +93,7 @@ module _ (file : List ℕ) (ends-in-sheet : noSheet file ≡ false) where
   parts : take (startOf file) file ++ sheet ≡ file
   parts = take-append-drop (startOf file) file
 
-  length-sheet : length sheet ≡ sheetSize (lastTrailer file .count)
+  length-sheet : length sheet ≡ sheetSize (lastForm file) (lastTrailer file .count)
   length-sheet = length-drop (startOf file) file ∙ omega (arith, frame .reaches)
 
   whole : WholeSheet sheet
@@ -91,47 +102,48 @@ module _ (file : List ℕ) (ends-in-sheet : noSheet file ≡ false) where
       ap lastNumbers (sym parts) ∙ same-numbers (take (startOf file) file) sheet (omega (arith, length-sheet)) in
       record {
         right = ap trailerRight (sym numbers) ∙ frame .right;
-        size-is = length-sheet ∙ ap (λ (v : List ℕ). sheetSize (trailerOf v .count)) numbers;
+        size-is = length-sheet ∙ ap (λ (v : List ℕ). sheetSize (formOf (trailerOf v .form)) (trailerOf v .count)) numbers;
       }
 
 -- ---- read
 
--- a reading over all that it looks at: whether there is no frame, the trailer's numbers, the records, and the start, which it
--- only answers
-unfoldable readingOf : Bool → List ℕ → List (List ℕ) → ℕ → Reading
-readingOf frameless numbers all start =
+-- a reading over all that it looks at: whether there is no frame, the trailer's numbers, the records, the vessel number, and the start,
+-- which it only answers
+unfoldable readingOf : Bool → List ℕ → List (List ℕ) → ℕ → ℕ → Reading
+readingOf frameless numbers all vessel start =
     let t = trailerOf numbers in
-    let s = sheetWith (t .«tonnage_length») (spacesOf all) in
-    let fault = firstFaulty (t .«tonnage_length») [] all in
+    let s = sheetWith (t .«tonnage_length») vessel (spacesOf all) in
+    let fault = firstFaulty (formOf (t .form)) (t .«tonnage_length») [] all in
     let number = firstOf ((frameless, 16) ∷ (not (eqb fault 0), 17) ∷ trailerTests s t) in
-    cond (eqb number 0) (acceptedReading s (t .justified) start) (refusedReading number (cond (eqb number 17) fault 0))
+    cond (eqb number 0) (acceptedReading s (t .justified) start (t .form)) (refusedReading number (cond (eqb number 17) fault 0))
 
-reading-is : (file : List ℕ) → readOf file ≡ readingOf (noSheet file) (lastNumbers file) (lastRecords file) (startOf file)
+reading-is : (file : List ℕ) → readOf file ≡ readingOf (noSheet file) (lastNumbers file) (lastRecords file) (lastVessel file) (startOf file)
 unfolding readOf readNumber faultIn sheetIn readingOf
 reading-is file = refl
 
-at-another-start : (frameless : Bool) (numbers : List ℕ) (all : List (List ℕ)) (start other : ℕ)
-    → readingOf frameless numbers all other ≡ startingAt other (readingOf frameless numbers all start)
+at-another-start : (frameless : Bool) (numbers : List ℕ) (all : List (List ℕ)) (vessel start other : ℕ)
+    → readingOf frameless numbers all vessel other ≡ startingAt other (readingOf frameless numbers all vessel start)
 unfolding readingOf refusedReading
-at-another-start frameless numbers all start other =
+at-another-start frameless numbers all vessel start other =
     let t = trailerOf numbers in
-    let s = sheetWith (t .«tonnage_length») (spacesOf all) in
-    let fault = firstFaulty (t .«tonnage_length») [] all in
+    let s = sheetWith (t .«tonnage_length») vessel (spacesOf all) in
+    let fault = firstFaulty (formOf (t .form)) (t .«tonnage_length») [] all in
     by-test (eqb (firstOf ((frameless, 16) ∷ (not (eqb fault 0), 17) ∷ trailerTests s t)) 0) (λ e. rw e) (λ e. rw (e, e))
 
-same-reading : (a b : List ℕ) → noSheet a ≡ noSheet b → lastNumbers a ≡ lastNumbers b → lastRecords a ≡ lastRecords b
+same-reading : (a b : List ℕ) → noSheet a ≡ noSheet b → lastNumbers a ≡ lastNumbers b → lastRecords a ≡ lastRecords b → lastVessel a ≡ lastVessel b
     → readOf b ≡ startingAt (startOf b) (readOf a)
-same-reading a b frames numbers all =
-    let same : readOf a ≡ readingOf (noSheet b) (lastNumbers b) (lastRecords b) (startOf a) =
+same-reading a b frames numbers all vessels =
+    let same : readOf a ≡ readingOf (noSheet b) (lastNumbers b) (lastRecords b) (lastVessel b) (startOf a) =
     reading-is a
-    ∙ ap (λ (frameless : Bool). readingOf frameless (lastNumbers a) (lastRecords a) (startOf a)) frames
-    ∙ ap (λ (v : List ℕ). readingOf (noSheet b) v (lastRecords a) (startOf a)) numbers
-    ∙ ap (λ (l : List (List ℕ)). readingOf (noSheet b) (lastNumbers b) l (startOf a)) all in
+    ∙ ap (λ (frameless : Bool). readingOf frameless (lastNumbers a) (lastRecords a) (lastVessel a) (startOf a)) frames
+    ∙ ap (λ (v : List ℕ). readingOf (noSheet b) v (lastRecords a) (lastVessel a) (startOf a)) numbers
+    ∙ ap (λ (l : List (List ℕ)). readingOf (noSheet b) (lastNumbers b) l (lastVessel a) (startOf a)) all
+    ∙ ap (λ (vessel : ℕ). readingOf (noSheet b) (lastNumbers b) (lastRecords b) vessel (startOf a)) vessels in
     reading-is b
-    ∙ at-another-start (noSheet b) (lastNumbers b) (lastRecords b) (startOf a) (startOf b)
+    ∙ at-another-start (noSheet b) (lastNumbers b) (lastRecords b) (lastVessel b) (startOf a) (startOf b)
     ∙ ap (startingAt (startOf b)) (sym same)
 
--- whatever stands before the last sheet: the same number and position, or the same sheet and mark, at its own start
+-- whatever stands before the last sheet: the same number and position, or the same sheet, mark and form, at its own start
 pub other-bytes-before : (file : List ℕ) → noSheet file ≡ false → (pre : List ℕ)
     → readOf (pre ++ drop (startOf file) file) ≡ startingAt (length pre) (readOf file)
 other-bytes-before file ends-in-sheet pre =
@@ -143,6 +155,7 @@ other-bytes-before file ends-in-sheet pre =
     (ends-in-sheet ∙ sym (framed-behind w pre))
     (ap lastNumbers (sym same) ∙ numbers-behind w before ∙ sym (numbers-behind w pre))
     (ap lastRecords (sym same) ∙ records-behind w before ∙ sym (records-behind w pre))
+    (ap lastVessel (sym same) ∙ vessel-behind w before ∙ sym (vessel-behind w pre))
     ∙ ap (λ (n : ℕ). startingAt n (readOf file)) (starts-behind w pre)
 
 -- so more bytes before a file put the start of its last sheet so much further on, and do nothing else

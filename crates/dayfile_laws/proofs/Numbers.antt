@@ -25,3 +25,10 @@ bytes-of-number (more {x = b} {xs = bytes} h others) =
     let lowest : (b + 256 * n) % 256 ≡ b = add-mul-mod-self-left b 256 n ∙ mod-eq-of-lt k in
     let rest : (b + 256 * n) / 256 ≡ n = add-mul-div-left b n (lit< tt) ∙ rw (div-eq-of-lt k) (zero-add n) in
     rw (lowest, rest, bytes-of-number others)
+
+-- which is below the power of its width
+pub number-below : {bytes : List ℕ} → Bytes bytes → numberOf bytes < 256 ^ length bytes
+number-below none = lit< tt
+number-below (more {x = b} {xs = bytes} h others) =
+    let power : 256 ^ suc (length bytes) ≡ 256 ^ length bytes * 256 = pow-suc 256 (length bytes) in
+    omega (arith, power, number-below others)

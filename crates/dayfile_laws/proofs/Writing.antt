@@ -1,20 +1,23 @@
 -- What a write does to a buffer, accepted or refused: "no byte before or after is touched". Stands on nothing of the file's numbers.
 use Prim.Native.Nat.{ℕ, _+_, _-_, _≤_}
 use mathlib.Core.Path.{_≡_, refl, sym, ap, _∙_}
+use mathlib.Core.Bool.{true, false, not}
 use mathlib.Core.List.{List, [], _∷_, _++_, append-assoc}
 use native.Mathlib.Omega.{arith}
-use borrow.Author.Tests.{eq-eqb, eqb-true, ltb-false}
-use lib.Dec.{eqb, ltb}
+use borrow.Author.Tests.{not-false, eq-eqb, ne-eqb, eqb-true, eqb-false, le-ltb, ltb-false}
+use lib.Dec.{eqb}
 use lib.ListN.{length, take, drop, length-append, length-drop}
 use lib.Seq.{length-take-le, take-at, drop-at}
 use Rattle.spaces.proofs.laws.Cases.{by-test}
+use Rattle.sheet.specs.Sheet.{usable}
 use Rattle.sheet.specs.Calls.{reported}
 use Rattle.sheet.specs.declared.sheet.Sheet.{Sheet}
 use Rattle.sheet.proofs.laws.Calls.{passed, after-call}
+use Rattle.dayfile.specs.Forms.{isForm, formOf}
 use Rattle.dayfile.specs.Trailer.{sheetSize}
-use Rattle.dayfile.specs.Writing.{sheetBytes, writeNumber, written, placed, writtenInto}
-use Rattle.dayfile.proofs.laws.Writing.{length-sheet, room}
-use Rattle.dayfile_laws.specs.Writing.{Untouched, WriteAccepted, Puts}
+use Rattle.dayfile.specs.Writing.{sheetBytes, losesNumber, tooLittleRoom, lostOrNoRoom, writeNumber, written, placed, writtenInto}
+use Rattle.dayfile.proofs.laws.Writing.{length-sheet, reported-number}
+use Rattle.dayfile_laws.specs.Writing.{Untouched, WriteAccepted, Puts, Writes}
 
 -- ---- bytes placed in a buffer
 
@@ -39,43 +42,66 @@ module _ (buffer : List ℕ) (at : ℕ) (bytes : List ℕ) (room : at + length b
         behind = drop-at (first ++ bytes) rest end front-and-bytes;
       }
 
+-- what puts some bytes where there is room for them, and refused leaves the buffer as it was, touches only as many as it answers
+pub only-answered-touched : (bytes : List ℕ) (number answered at : ℕ) (buffer after : List ℕ)
+    → (number ≡ 0 → Puts bytes number answered at buffer after × (at + length bytes ≤ length buffer)) → ((number ≡ 0 → ⊥) → after ≡ buffer)
+    → Untouched at answered buffer after
+only-answered-touched bytes number answered at buffer after accepted refused =
+    by-test (eqb number 0)
+    (λ t. let (puts, room) = accepted (eqb-true number 0 t) in rw (puts .as-many, puts .into) (placed-untouched buffer at bytes room))
+    (λ f. rw (refused (eqb-false number 0 f)) (record { as-many = refl; before = refl; behind = refl }))
+
 -- ---- an accepted write
 
-pub write-accepted : (s : Sheet) (justified at : ℕ) (buffer : List ℕ) → written s justified (length buffer) at .number ≡ 0
-    → WriteAccepted s justified at buffer
-unfolding writeNumber written writtenInto
-write-accepted s justified at buffer e =
-    let short = ltb (length buffer - at) (sheetSize (s .count)) in
-    let r = after-call (reported s justified .number) ((short, 15) ∷ []) e in
-    let fits : sheetSize (s .count) ≤ length buffer - at = ltb-false _ _ (passed short 15 [] (r .1) (λ z. omega arith) .0) in
-    let zero = eq-eqb (writeNumber s justified (length buffer) at) 0 e in
-    record {
-      reports = r .0;
-      room = omega arith;
-      bytes-are = rw zero;
-      into = rw zero;
-    }
+module _ (s : Sheet) (justified form at : ℕ) (buffer : List ℕ) where
+  pub write-accepted : written s justified form (length buffer) at .number ≡ 0 → WriteAccepted s justified form at buffer
+  unfolding writeNumber written writtenInto
+  write-accepted e =
+      let report = reported s justified .number in
+      let short = tooLittleRoom (formOf form) (s .count) (length buffer) at in
+      let end = lostOrNoRoom form s (length buffer) at in
+      let one = passed (not (usable s)) 1 ((not (isForm form), 2) ∷ (not (eqb report 0), report) ∷ end) e (λ z. omega arith) in
+      let two = passed (not (isForm form)) 2 ((not (eqb report 0), report) ∷ end) (one .1) (λ z. omega arith) in
+      let r = after-call report end (two .1) in
+      let lost-none = passed (losesNumber (formOf form) s) 20 ((short, 15) ∷ []) (r .1) (λ z. omega arith) in
+      let fits : sheetSize (formOf form) (s .count) ≤ length buffer - at = ltb-false _ _ (passed short 15 [] (lost-none .1) (λ z. omega arith) .0) in
+      let zero = eq-eqb (writeNumber s justified form (length buffer) at) 0 e in
+      record {
+        reports = r .0;
+        known = not-false (isForm form) (two .0);
+        none-lost = lost-none .0;
+        room = omega (arith, fits);
+        bytes-are = rw zero;
+        into = rw zero;
+      }
 
--- one whose report is given puts the bytes of its sheet, wherever there is room
-pub puts-its-bytes : (s : Sheet) (justified at : ℕ) (buffer : List ℕ) → reported s justified .number ≡ 0 → s .count ≤ length (s .spaces)
-    → at + length (sheetBytes s justified) ≤ length buffer → Puts (sheetBytes s justified) s justified at buffer
-unfolding written
-puts-its-bytes s justified at buffer reports places h =
-    let size = length-sheet s justified places in
-    let e = room s justified at buffer reports (omega (arith, size)) in
-    let a = write-accepted s justified at buffer e in
-    record { accepted = e; as-many = a .bytes-are ∙ sym size; into = a .into }
+  -- it puts the bytes of its sheet
+  accepted-puts : s .count ≤ length (s .spaces) → written s justified form (length buffer) at .number ≡ 0
+      → Writes (sheetBytes s justified form) s justified form at buffer
+  accepted-puts places e =
+      let a = write-accepted e in
+      record { accepted = e; as-many = a .bytes-are ∙ sym (length-sheet s justified form places); into = a .into }
+
+  -- one whose report is given puts the bytes of its sheet, in a form that loses no number, wherever there is room
+  pub puts-its-bytes : reported s justified .number ≡ 0 → isForm form ≡ true → losesNumber (formOf form) s ≡ false → s .count ≤ length (s .spaces)
+      → at + length (sheetBytes s justified form) ≤ length buffer → Writes (sheetBytes s justified form) s justified form at buffer
+  unfolding written
+  puts-its-bytes reports known none-lost places h =
+      let size = length-sheet s justified form places in
+      let fits : sheetSize (formOf form) (s .count) ≤ length buffer - at = omega (arith, size, h) in
+      let enough = le-ltb (length buffer - at) (sheetSize (formOf form) (s .count)) fits in
+      accepted-puts places (reported-number s justified form at buffer reports known ∙ rw (none-lost, enough))
 
 -- ---- every write
 
 -- refused, it touches nothing; accepted, only what it answers
-pub others-untouched : (s : Sheet) (justified at : ℕ) (buffer : List ℕ) → s .count ≤ length (s .spaces)
-    → Untouched at (written s justified (length buffer) at .bytes) buffer (writtenInto s justified at buffer)
+pub others-untouched : (s : Sheet) (justified form at : ℕ) (buffer : List ℕ) → s .count ≤ length (s .spaces)
+    → Untouched at (written s justified form (length buffer) at .bytes) buffer (writtenInto s justified form at buffer)
 unfolding written writtenInto
-others-untouched s justified at buffer places =
-    by-test (eqb (writeNumber s justified (length buffer) at) 0)
-    (λ t.
-    let a = write-accepted s justified at buffer (eqb-true _ 0 t) in
-    let size = length-sheet s justified places in
-    rw (t, ← size) (placed-untouched buffer at (sheetBytes s justified) (omega (arith, a .room, size))))
-    (λ f. rw f (record { as-many = refl; before = refl; behind = refl }))
+others-untouched s justified form at buffer places =
+    only-answered-touched (sheetBytes s justified form) _ _ at buffer _
+    (λ z. (
+      accepted-puts s justified form at buffer places z,
+      omega (arith, write-accepted s justified form at buffer z .room, length-sheet s justified form places),
+    ))
+    (λ refused. rw (ne-eqb _ 0 refused))

@@ -4,3 +4,4 @@ pub mod Faults
 pub mod Writing
 pub mod Reading
 pub mod Day
+pub mod Moving

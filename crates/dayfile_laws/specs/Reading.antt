@@ -10,13 +10,14 @@ use Rattle.sheet.specs.declared.sheet.Sheet.{Sheet}
 use Rattle.dayfile.specs.Record.{SameSpaces}
 use Rattle.dayfile.specs.declared.reading.Reading.{Reading}
 
--- a reading has what was written with a mark from a place on
-pub record ReadBack (s : Sheet) (justified start : ℕ) (r : Reading) : Type 0 where
+-- a reading has what was written with a mark, in a form, from a place on
+pub record ReadBack (s : Sheet) (justified form start : ℕ) (r : Reading) : Type 0 where
   pub accepted : r .number ≡ 0
   -- the same spaces, in the same order: each standing space, its m gone
   pub same-spaces : SameSpaces (standing s) (standing (r .sheet))
   pub without-m : standing (r .sheet) ≡ allRecorded (standing s)
   pub same-length : r .sheet .length ≡ s .length
+  pub same-vessel : r .sheet .vessel ≡ s .vessel
   pub same-mark : r .justified ≡ justified
   -- "The sheet read is open, with no open changes."
   pub is-open : usable (r .sheet) ≡ true
@@ -24,8 +25,10 @@ pub record ReadBack (s : Sheet) (justified start : ℕ) (r : Reading) : Type 0 w
   pub none-redoable : counted (r .sheet) .redoable ≡ 0
   -- "where the sheet starts"
   pub starts : r .start ≡ start
+  -- "Readers take either form and answer it"
+  pub same-form : r .form ≡ form
 
--- "bytes before it don't matter": the same number, position, sheet and mark, and where accepted another start
+-- "bytes before it don't matter": the same number, position, sheet, mark and form, and where accepted another start
 abbrev pub startingAt : ℕ → Reading → Reading
 startingAt start r =
     record {
@@ -34,4 +37,5 @@ startingAt start r =
       sheet = r .sheet;
       justified = r .justified;
       start = cond (eqb (r .number) 0) start 0;
+      form = r .form;
     }

@@ -3,13 +3,13 @@
 -- That every call ends and stays inside what it was lent is what the check proves of each function; and no public function asks
 -- anything of what it is given (NoSecondAnswer), so nobody has to check first. Here is what the check doesn't say. When a call is to be
 -- refused, each of its numbers with the condition, is in specs/Refusals. Stands on Tests, Reached.
-use Prim.Native.Nat.{ℕ, _-_, _<_}
+use Prim.Native.Nat.{ℕ, _<_}
 use mathlib.Core.Path.{_≡_, refl, sym, ap, _∙_}
 use mathlib.Core.Bool.{Bool, true, false, cond, not, _||_}
 use mathlib.Core.List.{List, [], _∷_, _++_}
 use mathlib.Core.Logic.{_↔_}
 use native.Mathlib.Omega.{arith}
-use borrow.Author.Tests.{not-true, ne-eqb, eqb-true, eqb-false, le-ltb}
+use borrow.Author.Tests.{not-true, eq-eqb, ne-eqb, eqb-true, eqb-false, le-ltb}
 use lib.Dec.{eqb, ltb, lit<}
 use lib.ListN.{length, drop}
 use Rattle.measure.specs.declared.units.Hundredths.{Hundredths}
@@ -23,12 +23,11 @@ use Rattle.measure.proofs.laws.Refusals.{spliced}
 use Rattle.standard.specs.Rules.{entryTests}
 use Rattle.standard.specs.Tanks.{tankTests, tankNumber}
 use Rattle.spaces_laws.proofs.Tanks.{tank-never-7, tank-never-8, none-without-m}
-use Rattle.standard.specs.Gross.{gross, net}
 use Rattle.spaces.specs.declared.space.Space.{Space}
 use Rattle.spaces.proofs.laws.Cases.{by-test}
-use Rattle.sheet.specs.Sheet.{standing, usable, blank}
+use Rattle.sheet.specs.Sheet.{standing, usable, blank, vesselOf}
 use Rattle.sheet.specs.Ends.{pointedWithArea, PointedWithArea}
-use Rattle.sheet.specs.Calls.{spaceOf, misstated, openedWith, entered, withdrawn, marked, undone, redone, counted, reported}
+use Rattle.sheet.specs.Calls.{spaceOf, outOfRange, misstated, openedWith, entered, withdrawn, marked, undone, redone, counted, reported}
 use Rattle.standard.specs.Records.{recordNumber, firstRefused}
 use Rattle.sheet.specs.Resume.{resumed}
 use Rattle.sheet.specs.declared.sheet.Sheet.{Sheet}
@@ -38,29 +37,32 @@ use Rattle.sheet.specs.declared.tanks.Tank.{Tank}
 use Rattle.sheet_laws.proofs.Accepted.{tank-accepted, a-room}
 use Rattle.sheet_laws.proofs.Runs.{refused-changes-nothing}
 use Rattle.sheet_laws.proofs.Ends.{pointed-with-area, nothing-else}
-use Rattle.dayfile.specs.Trailer.{sheetSize}
-use Rattle.dayfile.specs.Writing.{writeNumber, written, writtenInto}
+use Rattle.dayfile.specs.Forms.{isForm, formOf}
+use Rattle.dayfile.specs.Writing.{losesNumber, lostOrNoRoom, writeNumber, written, writtenInto}
 use Rattle.dayfile.specs.Record.{spacesOf}
 use Rattle.dayfile.specs.declared.reading.Reading.{Reading}
-use Rattle.dayfile.specs.Reading.{lastNumbers, lastTrailer, startOf, lastRecords, noSheet, faultIn, sheetIn, readNumber, refusedReading, readOf}
+use Rattle.dayfile.specs.Reading.{lastNumbers, lastTrailer, lastForm, startOf, lastRecords, lastVessel, noSheet, faultIn, sheetIn, readNumber, refusedReading, readOf}
+use Rattle.dayfile.specs.Moving.{moveNumber, moved, movedInto}
 use Rattle.dayfile.proofs.laws.Trailer.{within-trailer}
 use Rattle.dayfile.proofs.laws.Reading.{framed, count-fits, read-17}
 use Rattle.dayfile_laws.specs.Faults.{FaultExactly}
+use Rattle.dayfile_laws.specs.Writing.{LosesNumber}
 use Rattle.dayfile_laws.proofs.Resumed.{is-usable}
 use Rattle.dayfile_laws.proofs.Faults.{fault-exactly}
+use Rattle.dayfile_laws.proofs.Lost.{loses-exactly}
 use Rattle.dayfile_laws.proofs.ReadWritten.{length-spaces}
 use Rattle.demands.specs.Reached.{DayCall, call, write, handedBack, numberOf, Begun, Reached}
 use Rattle.demands.specs.Tests.{FirstGiven, Applies, LowestGiven}
-use Rattle.demands.specs.Refusals.{openTests, enterTests, enterTankTests, layOutTests, withdrawalTests, markingTests, undoTests, redoTests, lengthsShort, ballastUnjustified, reportTests, writeTests, figuresWrong, readTests, recordTests, Given17, NothingRead}
+use Rattle.demands.specs.Refusals.{openTests, enterTests, enterTankTests, layOutTests, withdrawalTests, markingTests, undoTests, redoTests, lengthsShort, ballastUnjustified, reportTests, writeTests, figuresWrong, readTests, moveTests, recordTests, Given17, NothingRead, NothingMoved}
 use Rattle.demands.proofs.Reached.{begun-without-m, reached-resumable}
 use Rattle.demands.proofs.Tests.{first-given, refusal-applies, lowest-given, never-given, applies-last, either}
 
 -- ---- "is given exactly when the paper says": for any sheet and any numbers
 
-pub open-refused : (L : Hundredths) → LowestGiven (openTests L) (openedWith L .number)
+pub open-refused : (L : Hundredths) (vessel : ℕ) → LowestGiven (openTests L) (openedWith L vessel .number)
 unfolding openedWith
-open-refused L =
-    let same : openedWith L .number ≡ firstOf (openTests L) = by-test (includes tonnageLengths L.0) (λ t. rw t) (λ f. rw f) in
+open-refused L vessel =
+    let same : openedWith L vessel .number ≡ firstOf (openTests L) = by-test (includes tonnageLengths L.0) (λ t. rw t) (λ f. rw f) in
     rw same (lowest-given (openTests L) (omega arith))
 
 pub enter-refused : (s : Sheet) (e : Entry) (heights breadths : List ℕ)
@@ -117,7 +119,7 @@ enter-tank-refused s k depths breadths =
     let wrong = sectionsWrong (s .length) (standing s) k depths breadths in
     let rest = tankTests (s .length) (standing s) (tankIn (s .length) (standing s) k depths breadths) (k .fore) in
     let same : tankEntered s k depths breadths .number ≡ firstOf (enterTankTests s k depths breadths) =
-    ap (λ (n : ℕ). cond (not (usable s)) 1 n) (either (ltb 3 (k .standing)) out 2 ((wrong, 3) ∷ rest)) in
+    ap (λ (n : ℕ). cond (not (usable s)) 1 n) (either (outOfRange (k .standing) (k .deck)) out 2 ((wrong, 3) ∷ rest)) in
     rw same (lowest-given (enterTankTests s k depths breadths) (omega arith))
 
 -- "7 and 8 never come from a tank, since a U is at level 1 and plain": on no sheet that calls can reach
@@ -129,7 +131,7 @@ tank-never-7-or-8 {s} r k depths breadths =
     let x = tankIn (s .length) (standing s) k depths breadths in
     let room = a-room (s .length) (standing s) k depths breadths in
     let low : (n : ℕ) → 3 < n → tankEntered s k depths breadths .number ≡ n → tankNumber (s .length) (standing s) x (k .fore) ≡ n =
-    after-3 (not (usable s)) (ltb 3 (k .standing)) (not (tankInRange (k .length) (k .fore) depths breadths)) (sectionsWrong (s .length) (standing s) k depths breadths)
+    after-3 (not (usable s)) (outOfRange (k .standing) (k .deck)) (not (tankInRange (k .length) (k .fore) depths breadths)) (sectionsWrong (s .length) (standing s) k depths breadths)
     (tankTests (s .length) (standing s) x (k .fore)) in
     (λ e. tank-never-7 v x (k .fore) room (low 7 (omega arith) e), λ e. tank-never-8 v x (k .fore) room (low 8 (omega arith) e))
   where
@@ -180,12 +182,28 @@ pub report-refused : (s : Sheet) (justified : ℕ) → LowestGiven (reportTests 
 unfolding reported
 report-refused s justified = lowest-given (reportTests s justified) (omega arith)
 
-pub write-refused : (s : Sheet) (justified size at : ℕ) → LowestGiven (writeTests s justified size at) (written s justified size at .number)
+-- 2 for the form at its place among the numbers of a report
+with-form : (closed mark known short ballast : Bool) (rest : List (Bool × ℕ))
+    → (let r = firstOf ((closed, 1) ∷ (mark, 2) ∷ (short, 13) ∷ (ballast, 14) ∷ []) in
+    firstOf ((closed, 1) ∷ (not known, 2) ∷ (not (eqb r 0), r) ∷ rest)
+    ≡ firstOf ((closed, 1) ∷ (mark || not known, 2) ∷ (short, 13) ∷ (ballast, 14) ∷ rest))
+with-form true mark known short ballast rest = refl
+with-form false true true short ballast rest = refl
+with-form false true false short ballast rest = refl
+with-form false false true true ballast rest = refl
+with-form false false true false true rest = refl
+with-form false false true false false rest = refl
+with-form false false false true ballast rest = refl
+with-form false false false false true rest = refl
+with-form false false false false false rest = refl
+
+-- in that order, since 20 comes "in a write just before 15"
+pub write-refused : (s : Sheet) (justified form size at : ℕ) → FirstGiven (writeTests s justified form size at) (written s justified form size at .number)
 unfolding written writeNumber reported
-write-refused s justified size at =
-    let same : written s justified size at .number ≡ firstOf (writeTests s justified size at) =
-    spliced (reportTests s justified) ((ltb (size - at) (sheetSize (s .count)), 15) ∷ []) (omega arith) in
-    rw same (lowest-given (writeTests s justified size at) (omega arith))
+write-refused s justified form size at =
+    let same : written s justified form size at .number ≡ firstOf (writeTests s justified form size at) =
+    with-form (not (usable s)) (ltb 1 justified) (isForm form) (lengthsShort s) (ballastUnjustified s justified) (lostOrNoRoom form s size at) in
+    rw same (first-given (writeTests s justified form size at) (omega arith))
 
 -- `resume`, by which reading makes its sheet, judges each record after those before it
 pub record-refused : (L : Hundredths) (before : List Space) (x : Space) → LowestGiven (recordTests L before x) (recordNumber L before x)
@@ -198,8 +216,8 @@ module _ (file : List ℕ) (ends-in-sheet : noSheet file ≡ false) where
   unfolding sheetIn
   read-open =
       let t = lastTrailer file in
-      is-usable (t .«tonnage_length») (spacesOf (lastRecords file))
-      (omega (arith, count-fits file ends-in-sheet, length-spaces (t .count) (drop (startOf file) file)))
+      is-usable (t .«tonnage_length») (lastVessel file) (spacesOf (lastRecords file))
+      (omega (arith, count-fits file ends-in-sheet, length-spaces (lastForm file) (t .count) (drop (startOf file) file)))
 
   mark-in-range : ltb 1 (lastTrailer file .justified) ≡ false
   mark-in-range = le-ltb 1 (lastTrailer file .justified) (omega (arith, within-trailer (lastNumbers file) 2 (lit< tt) (framed file ends-in-sheet .right)))
@@ -247,9 +265,9 @@ after-16 file z =
     with-17 (noSheet file) fault (lengthsShort s) (ballastUnjustified s (lastTrailer file .justified)) (figuresWrong file)
     (sym (answered-number file ∙ read-number file) ∙ z)
 
-faults-exactly : (file : List ℕ) → FaultExactly (lastTrailer file .«tonnage_length») (lastRecords file) (faultIn file)
+faults-exactly : (file : List ℕ) → FaultExactly (lastForm file) (lastTrailer file .«tonnage_length») (lastRecords file) (faultIn file)
 unfolding faultIn
-faults-exactly file = fault-exactly (lastTrailer file .«tonnage_length») (lastRecords file)
+faults-exactly file = fault-exactly (lastForm file) (lastTrailer file .«tonnage_length») (lastRecords file)
 
 pub read-17-exactly : (file : List ℕ) → noSheet file ≡ false → Given17 file
 unfolding refusedReading
@@ -279,13 +297,32 @@ read-17-exactly file ends-in-sheet =
       not-given = (λ e. absurd (e number), λ none. absurd (some (exactly .none-exactly .1 none)));
     })
 
+-- a move: 2, then those of reading, then 20, then 15; 1 is never among them, since it takes no sheet
+pub move-refused : (file : List ℕ) (form size at : ℕ) → FirstGiven (moveTests file form size at) (moved file form size at .number)
+unfolding moved moveNumber
+move-refused file form size at =
+    let end = lostOrNoRoom form (readOf file .sheet) size at in
+    let read = answered-number file ∙ read-number file in
+    let same : moved file form size at .number ≡ firstOf (moveTests file form size at) =
+    ap (λ (n : ℕ). cond (not (isForm form)) 2 n)
+    (ap (λ (n : ℕ). firstOf ((not (eqb n 0), n) ∷ end)) read ∙ spliced (readTests file) end (omega arith)) in
+    rw same (first-given (moveTests file form size at) (omega arith))
+
+pub move-never-1 : (file : List ℕ) (form size at : ℕ) → moved file form size at .number ≡ 1 → ⊥
+move-never-1 file form size at z =
+    never-given refl (refusal-applies (move-refused file form size at .refused-exactly 1 (omega arith) .0 z))
+
+-- 20 "where a move or write in form 1 would lose a number": the vessel number, or the deck of a standing space, isn't 0
+pub lost-exactly : (form : ℕ) (s : Sheet) → isForm form ≡ true → (losesNumber (formOf form) s ≡ true) ↔ LosesNumber form s
+lost-exactly = loses-exactly
+
 -- ---- "changes neither sheet nor buffer"
 
 -- "A refused change, undo or redo hands back the sheet as it came", and so does every other refused call on a sheet
 pub refused-hands-back : (c : DayCall) (s : Sheet) → (numberOf c s ≡ 0 → ⊥) → handedBack c s ≡ s
 unfolding written
 refused-hands-back (call c) s refused = refused-changes-nothing c s refused
-refused-hands-back (write justified size at) s refused = refl
+refused-hands-back (write justified form size at) s refused = refl
 
 -- "A refused report gives 0 and 0"
 pub refused-report-gives : (s : Sheet) (justified : ℕ) → (reported s justified .number ≡ 0 → ⊥)
@@ -294,20 +331,29 @@ unfolding reported
 refused-report-gives s justified refused = let e = ne-eqb _ 0 refused in (rw e, rw e)
 
 -- "a refused write 0 bytes and an untouched buffer"
-pub refused-write-gives : (s : Sheet) (justified at : ℕ) (buffer : List ℕ) → (written s justified (length buffer) at .number ≡ 0 → ⊥)
-    → (written s justified (length buffer) at .bytes ≡ 0) × (writtenInto s justified at buffer ≡ buffer)
+pub refused-write-gives : (s : Sheet) (justified form at : ℕ) (buffer : List ℕ) → (written s justified form (length buffer) at .number ≡ 0 → ⊥)
+    → (written s justified form (length buffer) at .bytes ≡ 0) × (writtenInto s justified form at buffer ≡ buffer)
 unfolding written writtenInto
-refused-write-gives s justified at buffer refused = let e = ne-eqb _ 0 refused in (rw e, rw e)
+refused-write-gives s justified form at buffer refused = let e = ne-eqb _ 0 refused in (rw e, rw e)
+
+-- and so does a refused move
+pub refused-move-gives : (file : List ℕ) (form at : ℕ) (buffer : List ℕ) → (moved file form (length buffer) at .number ≡ 0 → ⊥)
+    → NothingMoved file form at buffer
+unfolding moved movedInto
+refused-move-gives file form at buffer refused =
+    let e = ne-eqb _ 0 refused in
+    record { no-bytes = rw e; untouched = rw e; position-with-17 = λ z. rw (eq-eqb _ 17 z); position-0 = λ other. rw (ne-eqb _ 17 other) }
 
 -- "A refused open .. hands back a sheet not open"
-pub refused-open-gives : (L : Hundredths) → (openedWith L .number ≡ 0 → ⊥) → usable (openedWith L .sheet) ≡ false
+pub refused-open-gives : (L : Hundredths) (vessel : ℕ) → (openedWith L vessel .number ≡ 0 → ⊥) → usable (openedWith L vessel .sheet) ≡ false
 unfolding openedWith usable blank
-refused-open-gives L refused = by-test (includes tonnageLengths L.0) (λ t. absurd (refused (rw t))) (λ f. rw f)
+refused-open-gives L vessel refused = by-test (includes tonnageLengths L.0) (λ t. absurd (refused (rw t))) (λ f. rw f)
 
 -- and so does a refused `resume`
-pub refused-resume-gives : (L : Hundredths) (records : List Space) → (resumed L records .number ≡ 0 → ⊥) → usable (resumed L records .sheet) ≡ false
+pub refused-resume-gives : (L : Hundredths) (vessel : ℕ) (records : List Space) → (resumed L vessel records .number ≡ 0 → ⊥)
+    → usable (resumed L vessel records .sheet) ≡ false
 unfolding resumed usable blank
-refused-resume-gives L records refused =
+refused-resume-gives L vessel records refused =
     by-test (includes tonnageLengths L.0)
     (λ t. by-test (eqb (firstRefused L [] records .number) 0) (λ u. absurd (refused (rw (t, u)))) (λ f. rw (t, f)))
     (λ f. rw f)
@@ -322,6 +368,11 @@ pub counts-when-not-open : (s : Sheet) → usable s ≡ false → (counted s .un
 unfolding counted
 counts-when-not-open s closed = (rw closed, rw closed)
 
+-- "A sheet not open has vessel number 0."
+pub vessel-when-not-open : (s : Sheet) → usable s ≡ false → vesselOf s ≡ 0
+unfolding vesselOf
+vessel-when-not-open s closed = rw closed
+
 pub refused-read-gives : (file : List ℕ) → (readOf file .number ≡ 0 → ⊥) → NothingRead file
 unfolding readOf refusedReading usable blank
 refused-read-gives file refused =
@@ -332,6 +383,7 @@ refused-read-gives file refused =
       not-open = rw f;
       mark-0 = rw f;
       start-0 = rw f;
+      form-0 = rw f;
       position-with-17 = λ e. read-17-exactly file (after-16 file e .0) .with-position (readOf file .position) .0 (e, refl);
       position-0 = λ e. rw (f, ne-eqb (readNumber file) 17 (λ q. e (answered-number file ∙ q)));
     })

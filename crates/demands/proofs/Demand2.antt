@@ -4,7 +4,7 @@
 -- Stands on Reached. t is the tonnage length and l the space's length; parts, multipliers and areas are defined in measure/specs.
 use Prim.Native.Nat.{ℕ, _+_, _*_, _≤_, _<_}
 use mathlib.Core.Path.{_≡_, refl, sym, ap, _∙_}
-use mathlib.Core.Bool.{false, not}
+use mathlib.Core.Bool.{true, false, not}
 use mathlib.Core.List.{List, [], _∷_, _++_}
 use native.Mathlib.Omega.{arith}
 use borrow.Author.Tests.{not-true, not-false, eq-eqb, ne-eqb, eqb-true, eqb-false, le-leb}
@@ -61,14 +61,21 @@ use Rattle.sheet_laws.proofs.Resumable.{resumable-entered, entry-well-recorded,
 use Rattle.sheet_laws.proofs.Accepted.{enter-accepted, tank-accepted, a-room}
 use Rattle.sheet_laws.proofs.Ends.{no-area}
 use Rattle.dayfile.specs.Numbers.{Bytes}
-use Rattle.dayfile.specs.Writing.{written, writtenInto}
-use Rattle.dayfile.specs.Reading.{readOf}
-use Rattle.dayfile_laws.specs.Writing.{Puts}
+use Rattle.dayfile.specs.Forms.{isForm, formOf}
+use Rattle.dayfile.specs.Trailer.{sheetSize}
+use Rattle.dayfile.specs.Writing.{sheetBytes, losesNumber, written, writtenInto}
+use Rattle.dayfile.specs.Reading.{acceptedReading, readOf}
+use Rattle.dayfile.specs.Moving.{moved, movedInto}
+use Rattle.dayfile_laws.specs.Writing.{Untouched, Writes, Zeros}
+use Rattle.dayfile_laws.specs.Moving.{Moves, fileMoved}
 use Rattle.dayfile_laws.specs.Reading.{ReadBack}
 use Rattle.dayfile_laws.specs.Day.{Writable}
-use Rattle.dayfile_laws.proofs.Writing.{write-accepted}
-use Rattle.dayfile_laws.proofs.WrittenRead.{has-read-back, written-anywhere}
+use Rattle.dayfile_laws.proofs.Forms.{size-of-1, size-of-2}
+use Rattle.dayfile_laws.proofs.Lost.{kept-in-form-1, kept-in-form-2}
+use Rattle.dayfile_laws.proofs.Writing.{write-accepted, puts-its-bytes}
+use Rattle.dayfile_laws.proofs.WrittenRead.{has-places, length-bytes, has-read-back, written-anywhere}
 use Rattle.dayfile_laws.proofs.ReadWritten.{written-back}
+use Rattle.dayfile_laws.proofs.Moving.{move-accepted, others-untouched, moved-then-read, moved-is-copy, zeros-in-form-1, moves-up, there-and-back}
 use Rattle.demands.specs.Reached.{Reached}
 use Rattle.demands.specs.Figures.{EnteredLast, PassesOn, unlessPointed, PointedEnds, TankEnteredLast, GrossAndNet}
 use Rattle.demands.proofs.Reached.{reached-resumable}
@@ -264,7 +271,7 @@ entered-last {s} r e heights breadths z =
     let accepted = enter-accepted s e heights breadths z in
     record {
       offsets-accepted = accepted .offsets;
-      stands-last = ap standing (handed-next _ s _ z) ∙ put-last r x (entry-well-recorded (s .length) e heights breadths (accepted .offsets)) (accepted .number);
+      stands-last = ap standing (handed-next _ s _ z) ∙ put-last r x (entry-well-recorded (s .length) e heights breadths (accepted .well-said) (accepted .offsets)) (accepted .number);
       with-its-tonnage = refl;
     }
 
@@ -315,7 +322,7 @@ tank-entered-last {s} r k depths breadths z =
     record {
       inside-its-U = facts;
       sections-accepted = sym (ap (λ (r : Measured). r .number) answer);
-      stands-last = ap standing (handed-next _ s _ z) ∙ put-last r x (tank-well-recorded L xs k depths breadths (accepted .in-range)) last;
+      stands-last = ap standing (handed-next _ s _ z) ∙ put-last r x (tank-well-recorded L xs k depths breadths (accepted .well-said) (accepted .in-range)) last;
       with-its-tonnage = refl;
     }
 
@@ -332,17 +339,85 @@ gross-and-net {s} r justified z =
           ap (λ (n : ℕ). n + sumOf Deducted (standing s)) (told .net-is) ∙ report-exact v .gross-less-deducted ∙ sym (told .gross-is);
     }
 
--- ---- both round trips
+-- ---- both round trips, over the form
 
--- "A sheet written and read back has the same spaces in the same order": any sheet that calls can reach, in any buffer, at any place
-pub written-and-read-back : {s : Sheet} → Reached s → (justified at : ℕ) (buffer : List ℕ) → written s justified (length buffer) at .number ≡ 0
-    → ReadBack s justified at (readOf (take (at + written s justified (length buffer) at .bytes) (writtenInto s justified at buffer)))
-written-and-read-back {s} r justified at buffer z =
-    let w : Writable s justified = record { sheet = reached-resumable r; reports = write-accepted s justified at buffer z .reports } in
-    rw (written-anywhere s justified at buffer (w .sheet) z) (has-read-back s justified at w)
+-- "A sheet written and read back has the same spaces in the same order": any sheet that calls can reach, in any form that is accepted, in
+-- any buffer, at any place
+pub written-and-read-back : {s : Sheet} → Reached s → (justified form at : ℕ) (buffer : List ℕ)
+    → written s justified form (length buffer) at .number ≡ 0
+    → ReadBack s justified form at (readOf (take (at + written s justified form (length buffer) at .bytes) (writtenInto s justified form at buffer)))
+written-and-read-back {s} r justified form at buffer z =
+    let a = write-accepted s justified form at buffer z in
+    let w : Writable s justified form = record { sheet = reached-resumable r; reports = a .reports; known = a .known; none-lost = a .none-lost } in
+    rw (written-anywhere s justified form at buffer (w .sheet) z) (has-read-back s justified form at w)
 
--- "the sheet read from a file, written again with its mark, gives the bytes it was read from": any bytes, wherever there is room
+-- with its report and room, it is written in a form that loses no number of it
+written-in : {s : Sheet} → Reached s → (justified form at : ℕ) (buffer : List ℕ) → reported s justified .number ≡ 0 → isForm form ≡ true
+    → losesNumber (formOf form) s ≡ false → at + sheetSize (formOf form) (s .count) ≤ length buffer
+    → Writes (sheetBytes s justified form) s justified form at buffer
+written-in {s} r justified form at buffer z known none-lost room =
+    let w : Writable s justified form = record { sheet = reached-resumable r; reports = z; known = known; none-lost = none-lost } in
+    puts-its-bytes s justified form at buffer z known none-lost (has-places s justified form w) (omega (arith, room, length-bytes s justified form w))
+
+-- in form 2 nothing refuses it but its report and room
+pub written-in-form-2 : {s : Sheet} → Reached s → (justified at : ℕ) (buffer : List ℕ) → reported s justified .number ≡ 0
+    → at + (20 * s .count + 32) ≤ length buffer → Writes (sheetBytes s justified 2) s justified 2 at buffer
+written-in-form-2 {s} r justified at buffer z room =
+    written-in r justified 2 at buffer z refl (kept-in-form-2 s) (omega (arith, room, size-of-2 (s .count)))
+
+-- in form 1 nothing but these, where its decks and its vessel number are 0
+pub written-in-form-1 : {s : Sheet} → Reached s → (justified at : ℕ) (buffer : List ℕ) → reported s justified .number ≡ 0
+    → at + (16 * s .count + 28) ≤ length buffer → Zeros s → Writes (sheetBytes s justified 1) s justified 1 at buffer
+written-in-form-1 {s} r justified at buffer z room zeros =
+    written-in r justified 1 at buffer z refl (kept-in-form-1 s .1 zeros) (omega (arith, room, size-of-1 (s .count)))
+
+-- and there only: what is written in form 1 has no deck and no vessel number
+pub only-zeros-written-in-form-1 : (s : Sheet) (justified at : ℕ) (buffer : List ℕ) → written s justified 1 (length buffer) at .number ≡ 0 → Zeros s
+only-zeros-written-in-form-1 s justified at buffer z = kept-in-form-1 s .0 (write-accepted s justified 1 at buffer z .none-lost)
+
+-- "the sheet read from a file, written again with its mark, gives the bytes it was read from", and "that is in the form it was read in": any
+-- bytes, wherever there is room
 pub read-and-written-again : (file : List ℕ) → Bytes file → readOf file .number ≡ 0 → (at : ℕ) (buffer : List ℕ)
     → at + length (drop (readOf file .start) file) ≤ length buffer
-    → Puts (drop (readOf file .start) file) (readOf file .sheet) (readOf file .justified) at buffer
+    → Writes (drop (readOf file .start) file) (readOf file .sheet) (readOf file .justified) (readOf file .form) at buffer
 read-and-written-again file bytes z at buffer room = written-back file z bytes at buffer room
+
+-- ---- moves (T-05)
+
+-- "A move reads the last sheet of one buffer and writes it at a named place in another": what it leaves there is read as the same sheet, with
+-- its mark, in the form named
+pub moved-and-read : (file : List ℕ) → Bytes file → (form at : ℕ) (buffer : List ℕ) → moved file form (length buffer) at .number ≡ 0
+    → readOf (fileMoved file form at buffer) ≡ acceptedReading (readOf file .sheet) (readOf file .justified) at form
+moved-and-read file bytes form at buffer z = moved-then-read file bytes (move-accepted file form at buffer z .is-read) form at buffer z
+
+-- "a move in the form it has is a copy of the last sheet's bytes"
+pub move-is-copy : (file : List ℕ) → Bytes file → readOf file .number ≡ 0 → (at : ℕ) (buffer : List ℕ)
+    → at + length (drop (readOf file .start) file) ≤ length buffer → Moves (drop (readOf file .start) file) file (readOf file .form) at buffer
+move-is-copy = moved-is-copy
+
+-- "Moving a form 1 sheet up gives zeros"
+pub up-gives-zeros : (file : List ℕ) → Bytes file → readOf file .form ≡ 1 → (at : ℕ) (buffer : List ℕ) → moved file 2 (length buffer) at .number ≡ 0
+    → Zeros (readOf (fileMoved file 2 at buffer) .sheet)
+up-gives-zeros file bytes one at buffer z =
+    rw (moved-and-read file bytes 2 at buffer z) (zeros-in-form-1 file bytes (move-accepted file 2 at buffer z .is-read) one)
+
+-- nothing but reading and room refuses a move into form 2, and it puts there the bytes of the sheet that was read, in form 2
+pub move-up : (file : List ℕ) → Bytes file → readOf file .number ≡ 0 → (at : ℕ) (buffer : List ℕ)
+    → at + length (sheetBytes (readOf file .sheet) (readOf file .justified) 2) ≤ length buffer
+    → Moves (sheetBytes (readOf file .sheet) (readOf file .justified) 2) file 2 at buffer
+move-up = moves-up
+
+-- "and up and back gives the bytes again", from any form into any other and back
+pub up-and-back : (file : List ℕ) → Bytes file → readOf file .number ≡ 0 → (form at : ℕ) (buffer : List ℕ) → moved file form (length buffer) at .number ≡ 0
+    → (back-at : ℕ) (other : List ℕ) → back-at + length (drop (readOf file .start) file) ≤ length other
+    → Moves (drop (readOf file .start) file) (fileMoved file form at buffer) (readOf file .form) back-at other
+up-and-back = there-and-back
+
+-- what is moved into form 1 has no deck and no vessel number
+pub only-zeros-moved-into-form-1 : (file : List ℕ) (at : ℕ) (buffer : List ℕ) → moved file 1 (length buffer) at .number ≡ 0 → Zeros (readOf file .sheet)
+only-zeros-moved-into-form-1 file at buffer z = kept-in-form-1 (readOf file .sheet) .0 (move-accepted file 1 at buffer z .none-lost)
+
+-- no byte of the other buffer is touched but those that it answers; refused, none
+pub move-touches-no-others : (file : List ℕ) → Bytes file → (form at : ℕ) (buffer : List ℕ)
+    → Untouched at (moved file form (length buffer) at .bytes) buffer (movedInto file form at buffer)
+move-touches-no-others = others-untouched

@@ -5,7 +5,7 @@
 -- First the whole of it, then clause by clause. The runs are those of specs/Reached; the log of accepted changes, what they leave and
 -- the paper's counts are defined in sheet_laws/specs/Run; what is above in spaces_laws/specs/Above. Stands on Reached.
 use Prim.Native.Nat.{ℕ, _+_, _≤_}
-use mathlib.Core.Path.{_≡_}
+use mathlib.Core.Path.{_≡_, _∙_}
 use mathlib.Core.Bool.{false}
 use mathlib.Core.List.{List}
 use borrow.Author.Tests.{eqb-true, eqb-false}
@@ -18,11 +18,13 @@ use Rattle.spaces.specs.declared.space.Space.{Space}
 use Rattle.spaces.specs.declared.sums.Amount.the-variants.{Hull, Deducted}
 use Rattle.spaces.proofs.laws.Cases.{by-test}
 use Rattle.spaces_laws.specs.Above.{_∈_, Above}
-use Rattle.sheet.specs.Sheet.{standing}
-use Rattle.sheet.specs.Calls.{undone, redone, reported}
+use Rattle.sheet.specs.Sheet.{standing, vesselOf}
+use Rattle.sheet.specs.Calls.{openedWith, undone, redone, reported}
 use Rattle.sheet.specs.declared.sheet.Sheet.{Sheet}
 use Rattle.sheet_laws.specs.Run.{replay, logOf, countsOf}
 use Rattle.sheet_laws.specs.Holds.{RefusedAtNil, Holds}
+use Rattle.sheet_laws.proofs.Runs.{vessel-kept}
+use Rattle.sheet_laws.proofs.Resumable.{opened-of-records, opened-vessel}
 use Rattle.sheet_laws.proofs.AnyRun.{after-any-run-from-records}
 use Rattle.demands.specs.Reached.{Begun, DayCall, afterDay, withoutWrites, Reached, reached}
 use Rattle.demands.proofs.Reached.{begun-of-records, writes-change-nothing}
@@ -51,6 +53,19 @@ undo-refused-only-at-nil begun calls = only-at-nil (after-any-run begun calls .h
 pub redo-refused-only-at-nil : {L : Hundredths} {start : List Space} {first : Sheet} → Begun L start first → (calls : List DayCall)
     → (redone (afterDay calls first) .number ≡ 0 → ⊥) → countsOf (withoutWrites calls) first .redoable ≡ 0
 redo-refused-only-at-nil begun calls = only-at-nil (after-any-run begun calls .history .redo-refused)
+
+-- no call changes the vessel number
+pub vessel-number-kept : (first : Sheet) (calls : List DayCall) → afterDay calls first .vessel ≡ first .vessel
+vessel-number-kept first calls = rw (writes-change-nothing calls first) (vessel-kept first (withoutWrites calls))
+
+-- "the vessel number is given at opening": after any calls it is the one that `vessel` tells
+pub vessel-as-opened : (L : Hundredths) (vessel : ℕ) → openedWith L vessel .number ≡ 0 → (calls : List DayCall)
+    → vesselOf (afterDay calls (openedWith L vessel .sheet)) ≡ vessel
+unfolding vesselOf
+vessel-as-opened L vessel z calls =
+    let first = openedWith L vessel .sheet in
+    let is-usable = after-any-run-from-records (opened-of-records L vessel z) (withoutWrites calls) .history .is-usable in
+    rw (writes-change-nothing calls first, is-usable) (vessel-kept first (withoutWrites calls) ∙ opened-vessel L vessel z)
 
 -- ---- "Of every sheet so reached"
 

@@ -209,6 +209,10 @@ pub sheet-report :
     One sheet.sheet.Sheet.report.ended sheet.sheet.Sheet.report.Reads.Asked sheet.sheet.Sheet.report.Reads.Learnt
 sheet-report _ = record { nothing-asked = tt; one-answer = agree; one-left = λ p q. refl }
 
+pub sheet-figures :
+    One sheet.sheet.Sheet.figures.ended sheet.sheet.Sheet.figures.Reads.Asked sheet.sheet.Sheet.figures.Reads.Learnt
+sheet-figures _ = record { nothing-asked = tt; one-answer = agree; one-left = λ p q. refl }
+
 pub sheet-resume :
     One sheet.sheet.Sheet.resume.ended sheet.sheet.Sheet.resume.Reads.Asked sheet.sheet.Sheet.resume.Reads.Learnt
 sheet-resume _ = record { nothing-asked = tt; one-answer = agree; one-left = λ p q. refl }
@@ -220,6 +224,10 @@ sheet-closed _ = record { nothing-asked = tt; one-answer = agree; one-left = λ 
 pub sheet-tonnage-length :
     One sheet.sheet.Sheet.tonnage_length.ended sheet.sheet.Sheet.tonnage_length.Reads.Asked sheet.sheet.Sheet.tonnage_length.Reads.Learnt
 sheet-tonnage-length _ = record { nothing-asked = tt; one-answer = agree; one-left = λ p q. refl }
+
+pub sheet-vessel :
+    One sheet.sheet.Sheet.vessel.ended sheet.sheet.Sheet.vessel.Reads.Asked sheet.sheet.Sheet.vessel.Reads.Learnt
+sheet-vessel _ = record { nothing-asked = tt; one-answer = agree; one-left = λ p q. refl }
 
 pub sheet-standing-count :
     One sheet.sheet.Sheet.standing_count.ended sheet.sheet.Sheet.standing_count.Reads.Asked sheet.sheet.Sheet.standing_count.Reads.Learnt
@@ -242,6 +250,11 @@ pub sheet-enter-tank :
 sheet-enter-tank _ = record { nothing-asked = tt; one-answer = agree; one-left = λ p q. refl }
 
 -- dayfile
+pub dayfile-move-last :
+    One dayfile.move_last.ended dayfile.move_last.Reads.Asked dayfile.move_last.Reads.Learnt
+dayfile-move-last _ =
+    record { nothing-asked = tt; one-answer = λ p q. agree (p .0) (q .0); one-left = λ p q. ap (λ b. (tt, (tt, (b, (tt, tt))))) (agree (p .1) (q .1)) }
+
 pub dayfile-read :
     One dayfile.read.ended dayfile.read.Reads.Asked dayfile.read.Reads.Learnt
 dayfile-read _ = record { nothing-asked = tt; one-answer = agree; one-left = λ p q. refl }
@@ -261,7 +274,7 @@ dayfile-part-before _ = record { nothing-asked = tt; one-answer = agree; one-lef
 pub dayfile-write :
     One dayfile.write.ended dayfile.write.Reads.Asked dayfile.write.Reads.Learnt
 dayfile-write _ =
-    record { nothing-asked = tt; one-answer = λ p q. agree (p .0) (q .0); one-left = λ p q. ap (λ b. (tt, (tt, (b, (tt, tt))))) (agree (p .1) (q .1)) }
+    record { nothing-asked = tt; one-answer = λ p q. agree (p .0) (q .0); one-left = λ p q. ap (λ b. (tt, (tt, (tt, (b, (tt, tt)))))) (agree (p .1) (q .1)) }
 
 -- script
 pub script-survey-line :
@@ -394,6 +407,10 @@ pub fummidrake-tonnage-length :
     One fummidrake.fummidrake_tonnage_length.ended fummidrake.fummidrake_tonnage_length.Reads.Asked fummidrake.fummidrake_tonnage_length.Reads.Learnt
 fummidrake-tonnage-length _ = record { nothing-asked = tt; one-answer = agree; one-left = λ p q. refl }
 
+pub fummidrake-vessel :
+    One fummidrake.fummidrake_vessel.ended fummidrake.fummidrake_vessel.Reads.Asked fummidrake.fummidrake_vessel.Reads.Learnt
+fummidrake-vessel _ = record { nothing-asked = tt; one-answer = agree; one-left = λ p q. refl }
+
 pub fummidrake-standing-count :
     One fummidrake.fummidrake_standing_count.ended fummidrake.fummidrake_standing_count.Reads.Asked fummidrake.fummidrake_standing_count.Reads.Learnt
 fummidrake-standing-count _ = record { nothing-asked = tt; one-answer = agree; one-left = λ p q. refl }
@@ -421,7 +438,7 @@ fummidrake-section-station _ = record { nothing-asked = tt; one-answer = agree; 
 pub fummidrake-write :
     One fummidrake.fummidrake_write.ended fummidrake.fummidrake_write.Reads.Asked fummidrake.fummidrake_write.Reads.Learnt
 fummidrake-write _ =
-    record { nothing-asked = tt; one-answer = λ p q. agree (p .0) (q .0); one-left = λ p q. ap (λ b. (tt, (tt, (b, (tt, tt))))) (agree (p .1) (q .1)) }
+    record { nothing-asked = tt; one-answer = λ p q. agree (p .0) (q .0); one-left = λ p q. ap (λ b. (tt, (tt, (tt, (b, (tt, tt)))))) (agree (p .1) (q .1)) }
 
 pub fummidrake-read :
     One fummidrake.fummidrake_read.ended fummidrake.fummidrake_read.Reads.Asked fummidrake.fummidrake_read.Reads.Learnt
@@ -430,6 +447,11 @@ fummidrake-read _ = record { nothing-asked = tt; one-answer = agree; one-left = 
 pub fummidrake-read-before :
     One fummidrake.fummidrake_read_before.ended fummidrake.fummidrake_read_before.Reads.Asked fummidrake.fummidrake_read_before.Reads.Learnt
 fummidrake-read-before _ = record { nothing-asked = tt; one-answer = agree; one-left = λ p q. refl }
+
+pub fummidrake-move-last :
+    One fummidrake.fummidrake_move_last.ended fummidrake.fummidrake_move_last.Reads.Asked fummidrake.fummidrake_move_last.Reads.Learnt
+fummidrake-move-last _ =
+    record { nothing-asked = tt; one-answer = λ p q. agree (p .0) (q .0); one-left = λ p q. ap (λ b. (tt, (tt, (b, (tt, tt))))) (agree (p .1) (q .1)) }
 
 pub fummidrake-list :
     One fummidrake.fummidrake_list.ended fummidrake.fummidrake_list.Reads.Asked fummidrake.fummidrake_list.Reads.Learnt

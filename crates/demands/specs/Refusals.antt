@@ -1,10 +1,11 @@
--- When each call is to be refused, and what a refused read gives.
-use Prim.Native.Nat.{ℕ, _-_}
+-- When each call is to be refused, and what a refused read and a refused move give.
+use Prim.Native.Nat.{ℕ}
 use mathlib.Core.Path.{_≡_}
 use mathlib.Core.Bool.{Bool, false, not, _&&_, _||_}
 use mathlib.Core.List.{List, [], _∷_, _++_}
 use mathlib.Core.Logic.{_↔_}
 use lib.Dec.{eqb, ltb}
+use lib.ListN.{length}
 use Rattle.measure.specs.declared.units.Hundredths.{Hundredths}
 use Rattle.measure.specs.Kinds.{kindOf}
 use Rattle.measure.specs.Ranges.{includes, tonnageLengths}
@@ -22,23 +23,26 @@ use Rattle.sheet.specs.Sheet.{standing, usable}
 use Rattle.sheet.specs.declared.sheet.Sheet.{Sheet}
 use Rattle.sheet.specs.declared.calls.Entry.{Entry}
 use Rattle.sheet.specs.Ends.{pointedWithArea}
-use Rattle.sheet.specs.Calls.{spaceOf, misstated}
+use Rattle.sheet.specs.Calls.{spaceOf, outOfRange, misstated}
 use Rattle.sheet.specs.Tanks.{tankIn, sectionsWrong}
 use Rattle.sheet.specs.declared.tanks.Tank.{Tank}
-use Rattle.dayfile.specs.Trailer.{sheetSize}
-use Rattle.dayfile.specs.Reading.{lastTrailer, lastRecords, noSheet, faultIn, sheetIn, readOf}
+use Rattle.dayfile.specs.Forms.{isForm}
+use Rattle.dayfile.specs.Writing.{lostOrNoRoom}
+use Rattle.dayfile.specs.Reading.{lastTrailer, lastForm, lastRecords, noSheet, faultIn, sheetIn, readOf}
+use Rattle.dayfile.specs.Moving.{moved, movedInto}
 use Rattle.dayfile_laws.specs.Faults.{FirstFault, NoFault}
 
--- ---- the rows of "Numbers of refusal" that each call can be refused with. The conditions of entryTests (4 to 10), withdrawTests
--- (5, 11) and markTests (5, 6, 8) are defined in standard/specs/Rules, those of tankTests (4 to 10 and 29) in standard/specs/Tanks, those
--- of a U's ends (2, 19) in sheet/specs/Ends, those of 16 and 17 in dayfile/specs/Reading.
+-- ---- the rows of "Numbers of refusal" that each call can be refused with, and 19, 20 and 29 of document 02. The conditions of entryTests
+-- (4 to 10), withdrawTests (5, 11) and markTests (5, 6, 8) are defined in standard/specs/Rules, those of tankTests (4 to 10 and 29) in
+-- standard/specs/Tanks, those of a U's ends (2, 19) in sheet/specs/Ends, those of 16 and 17 in dayfile/specs/Reading, those of 20 and 15
+-- in dayfile/specs/Writing.
 
 -- 2: the tonnage length is outside its range
 abbrev pub openTests : Hundredths → List (Bool × ℕ)
 openTests L = (not (includes tonnageLengths L.0), 2) ∷ []
 
--- 1; 2: its standing, an end of a U, its kind or a measure is outside its range; 3: its offsets are not the number the rules ask; 4 to 10;
--- 19: "where a pointed end has area, after all the others"
+-- 1; 2: its standing, its deck, an end of a U, its kind or a measure is outside its range; 3: its offsets are not the number the rules ask;
+-- 4 to 10; 19: "where a pointed end has area, after all the others"
 abbrev pub enterTests : Sheet → Entry → List ℕ → List ℕ → List (Bool × ℕ)
 enterTests s e heights breadths =
     let k = kindOf (e .kind) in
@@ -50,13 +54,14 @@ enterTests s e heights breadths =
     ∷ entryTests (s .length) (standing s) (spaceOf (s .length) e heights breadths)
     ++ ((pointedWithArea e (endsOf heights breadths), 19) ∷ [])
 
--- 1; 2: its standing, its length, its fore end or a measure is outside its range; 3: "a section or breadth is missing or extra"; 4 to 10; 29
+-- 1; 2: its standing, its deck, its length, its fore end or a measure is outside its range; 3: "a section or breadth is missing or extra";
+-- 4 to 10; 29
 abbrev pub enterTankTests : Sheet → Tank → List ℕ → List ℕ → List (Bool × ℕ)
 enterTankTests s k depths breadths =
     let L = s .length in
     let xs = standing s in
     (not (usable s), 1)
-    ∷ (ltb 3 (k .standing) || not (tankInRange (k .length) (k .fore) depths breadths), 2)
+    ∷ (outOfRange (k .standing) (k .deck) || not (tankInRange (k .length) (k .fore) depths breadths), 2)
     ∷ (sectionsWrong L xs k depths breadths, 3)
     ∷ tankTests L xs (tankIn L xs k depths breadths) (k .fore)
 
@@ -91,9 +96,14 @@ abbrev pub reportTests : Sheet → ℕ → List (Bool × ℕ)
 reportTests s justified =
     (not (usable s), 1) ∷ (ltb 1 justified, 2) ∷ (lengthsShort s, 13) ∷ (ballastUnjustified s justified, 14) ∷ []
 
--- the same, and 15: "buffer has too little room from the named place"
-abbrev pub writeTests : Sheet → ℕ → ℕ → ℕ → List (Bool × ℕ)
-writeTests s justified size at = reportTests s justified ++ ((ltb (size - at) (sheetSize (s .count)), 15) ∷ [])
+-- 1; 2: the justified mark is outside its range, or "a form that is neither"; 13, 14; 20 "in a write just before 15"
+abbrev pub writeTests : Sheet → ℕ → ℕ → ℕ → ℕ → List (Bool × ℕ)
+writeTests s justified form size at =
+    (not (usable s), 1)
+    ∷ (ltb 1 justified || not (isForm form), 2)
+    ∷ (lengthsShort s, 13)
+    ∷ (ballastUnjustified s justified, 14)
+    ∷ lostOrNoRoom form s size at
 
 -- 18: "gross or net isn't what the records give"
 abbrev pub figuresWrong : List ℕ → Bool
@@ -113,6 +123,10 @@ readTests file =
     ∷ (figuresWrong file, 18)
     ∷ []
 
+-- "a move gives 2, then those of reading, then 20, then 15"
+abbrev pub moveTests : List ℕ → ℕ → ℕ → ℕ → List (Bool × ℕ)
+moveTests file form size at = (not (isForm form), 2) ∷ readTests file ++ lostOrNoRoom form (readOf file .sheet) size at
+
 -- "It checks records in file order as entries with the recorded tonnage and length": 2 of a record's own numbers, then 4 to 10
 abbrev pub recordTests : Hundredths → List Space → Space → List (Bool × ℕ)
 recordTests L before x = (misrecorded x, 2) ∷ entryTests L before x
@@ -123,14 +137,24 @@ recordTests L before x = (misrecorded x, 2) ∷ entryTests L before x
 -- it and none of these is, and not given exactly when none is
 pub record Given17 (file : List ℕ) : Type 0 where
   pub with-position : (position : ℕ)
-      → ((readOf file .number ≡ 17) × (readOf file .position ≡ position)) ↔ FirstFault (lastTrailer file .«tonnage_length») (lastRecords file) position
-  pub not-given : (readOf file .number ≡ 17 → ⊥) ↔ NoFault (lastTrailer file .«tonnage_length») (lastRecords file)
+      → ((readOf file .number ≡ 17) × (readOf file .position ≡ position)) ↔ FirstFault (lastForm file) (lastTrailer file .«tonnage_length») (lastRecords file) position
+  pub not-given : (readOf file .number ≡ 17 → ⊥) ↔ NoFault (lastForm file) (lastTrailer file .«tonnage_length») (lastRecords file)
 
--- "A refused .. read hands back a sheet not open, mark 0, start 0." 17 "with the position, from 1, of the first such record", and "The
--- position is 0 for every number but 17."
+-- "A refused .. read hands back a sheet not open, mark 0, start 0", and form 0. 17 "with the position, from 1, of the first such record",
+-- and "The position is 0 for every number but 17."
 pub record NothingRead (file : List ℕ) : Type 0 where
   pub not-open : usable (readOf file .sheet) ≡ false
   pub mark-0 : readOf file .justified ≡ 0
   pub start-0 : readOf file .start ≡ 0
-  pub position-with-17 : readOf file .number ≡ 17 → FirstFault (lastTrailer file .«tonnage_length») (lastRecords file) (readOf file .position)
+  pub form-0 : readOf file .form ≡ 0
+  pub position-with-17 : readOf file .number ≡ 17 → FirstFault (lastForm file) (lastTrailer file .«tonnage_length») (lastRecords file) (readOf file .position)
   pub position-0 : (readOf file .number ≡ 17 → ⊥) → readOf file .position ≡ 0
+
+-- ---- moving
+
+-- "answering as a write does, with 17's position": a refused move writes nothing, and the position is that of reading
+pub record NothingMoved (file : List ℕ) (form at : ℕ) (buffer : List ℕ) : Type 0 where
+  pub no-bytes : moved file form (length buffer) at .bytes ≡ 0
+  pub untouched : movedInto file form at buffer ≡ buffer
+  pub position-with-17 : moved file form (length buffer) at .number ≡ 17 → moved file form (length buffer) at .position ≡ readOf file .position
+  pub position-0 : (moved file form (length buffer) at .number ≡ 17 → ⊥) → moved file form (length buffer) at .position ≡ 0

@@ -2,6 +2,7 @@
 // one promises. include/fummidrake.h declares them, with a sentence for each.
 //
 // A slice is a pointer and a length there. No function asks anything of its caller but that the two belong together.
+use dayfile::Moved;
 use dayfile::Reading;
 use dayfile::Written;
 use listing::Listing;
@@ -26,18 +27,19 @@ ghost use Rattle.measure.specs.Kinds.{kindOf};
 ghost use Rattle.measure.specs.Volumes.{hundredths};
 ghost use Rattle.measure.specs.Offsets.{stations as stationsOf, breadthsAtStation};
 ghost use Rattle.measure.specs.Tanks.{laidOut, sectionStation};
-ghost use Rattle.sheet.specs.Sheet.{usable, lengthOf, standingCount, spaceAt};
+ghost use Rattle.sheet.specs.Sheet.{usable, lengthOf, vesselOf, standingCount, spaceAt};
 ghost use Rattle.sheet.specs.Calls.{openedWith, entering, withdrawn, marked, undone, redone, counted, reported};
 ghost use Rattle.sheet.specs.Tanks.{tankEntered};
 ghost use Rattle.dayfile.specs.Writing.{written, writtenInto};
 ghost use Rattle.dayfile.specs.Reading.{readOf, readBefore};
+ghost use Rattle.dayfile.specs.Moving.{moved, movedInto};
 ghost use Rattle.listing.specs.Listing.{listed};
 
 #[no_mangle]
-pub extern "C" fn fummidrake_open(length: u32) -> Changed
-    ensures { λ r. ⌜ r ≡ openedWith (hundredths length) ⌝ }
+pub extern "C" fn fummidrake_open(length: u32, vessel: u32) -> Changed
+    ensures { λ r. ⌜ r ≡ openedWith (hundredths length) vessel ⌝ }
 {
-    Sheet::open(Hundredths(length))
+    Sheet::open(Hundredths(length), vessel)
 }
 
 #[no_mangle]
@@ -121,6 +123,13 @@ pub extern "C" fn fummidrake_tonnage_length(sheet: Sheet) -> u32
 }
 
 #[no_mangle]
+pub extern "C" fn fummidrake_vessel(sheet: Sheet) -> u32
+    ensures { λ r. ⌜ r ≡ vesselOf sheet ⌝ }
+{
+    sheet.vessel()
+}
+
+#[no_mangle]
 pub extern "C" fn fummidrake_standing_count(sheet: Sheet) -> usize
     ensures { λ r. ⌜ r ≡ standingCount sheet ⌝ }
 {
@@ -192,13 +201,14 @@ pub extern "C" fn fummidrake_section_station(
 pub extern "C" fn fummidrake_write(
     sheet: Sheet,
     justified: u8,
+    form: u8,
     buf: &mut [u8],
     at: usize,
 ) -> Written
-    ensures answer { λ r. ⌜ r ≡ written sheet justified (length (now (buf .entry))) at ⌝ }
-    ensures buffer { λ _. ⌜ now (buf .exit) ≡ writtenInto sheet justified at (now (buf .entry)) ⌝ }
+    ensures answer { λ r. ⌜ r ≡ written sheet justified form (length (now (buf .entry))) at ⌝ }
+    ensures buffer { λ _. ⌜ now (buf .exit) ≡ writtenInto sheet justified form at (now (buf .entry)) ⌝ }
 {
-    dayfile::write(sheet, justified, buf, at)
+    dayfile::write(sheet, justified, form, buf, at)
 }
 
 #[no_mangle]
@@ -213,6 +223,14 @@ pub extern "C" fn fummidrake_read_before(file: &[u8], start: usize) -> Reading
     ensures { λ r. ⌜ r ≡ readBefore (now (file .entry)) start ⌝ }
 {
     dayfile::read_before(file, start)
+}
+
+#[no_mangle]
+pub extern "C" fn fummidrake_move_last(from: &[u8], form: u8, to: &mut [u8], at: usize) -> Moved
+    ensures answer { λ r. ⌜ r ≡ moved (now (from .entry)) form (length (now (to .entry))) at ⌝ }
+    ensures buffer { λ _. ⌜ now (to .exit) ≡ movedInto (now (from .entry)) form at (now (to .entry)) ⌝ }
+{
+    dayfile::move_last(from, form, to, at)
 }
 
 #[no_mangle]

@@ -56,9 +56,9 @@ fn put_sheet(buf: &mut [u8], sheet: Sheet, justified: u8) -> usize
     requires { ⌜ (textSize ≡ length (now buf)) × (reported sheet justified .number ≡ 0) ⌝ }
     ensures { λ r. ⌜ PutText (now (buf .entry)) (sheetText sheet) (now (buf .exit)) r ⌝ }
 {
-    let report = sheet.report(justified);
+    let figures = sheet.figures(justified);
     let spaces = put_figure(buf, 0, b"LENGTH", sheet.tonnage_length().0 as u64);
     let gross = put_spaces(buf, spaces, sheet.places(), sheet.standing_count());
-    let net = put_figure(buf, gross, b"GROSS", report.gross);
-    put_figure(buf, net, b"NET", report.net)
+    let net = put_figure(buf, gross, b"GROSS", figures.gross);
+    put_figure(buf, net, b"NET", figures.net)
 }

@@ -1,6 +1,6 @@
 -- What the definitions of specs/ mean: the parts of a text joined again, a number by its places, hex written and read back, which form a
 -- line has, and what a line that fits leaves to its call.
-use Prim.Native.Nat.{ℕ, zero, suc, _+_, _*_, _-_, _/_, _%_, _^_, _≤_, _<_}
+use Prim.Native.Nat.{ℕ, zero, suc, _+_, _*_, _-_, _/_, _%_, _^_, _≤_, _<_, min}
 use Prim.Native.Char.{code}
 use mathlib.Core.Path.{_≡_, refl, sym, ap, _∙_}
 use mathlib.Core.Bool.{Bool, true, false, cond, _||_, and-eq-true-iff, false≢true}
@@ -11,11 +11,14 @@ use native.Mathlib.Omega.{arith}
 use borrow.Author.Tests.{lt-ltb, le-ltb, le-leb, lt-leb, eq-eqb, eqb-true, ltb-true, ltb-false}
 use lib.Dec.{ltb, eqb}
 use lib.ListN.{length, getD, length-map}
+use Rattle.script.specs.Text.{ascii}
 use Rattle.script.specs.Words.{onFirst, partsOf, marksIn, first, behind, sameText, isDecimal, isLetter, isDigit, allDigits, valueBehind}
-use Rattle.script.specs.Words.{wordAt, measureOf, isEmptyList, numbersOf, measuresOf}
+use Rattle.script.specs.Words.{wordAt, numberOf, valueIn, measureOf, isEmptyList, numbersOf, measuresOf}
 use Rattle.script.specs.Hex.{isHex, digitValue, hexDigit, bytesOf, hexOf}
-use Rattle.script.specs.Calls.{surveyForms, figuresForms, isForm, placeBy, placeOf, judgedNumbers, judgedList, judgedHex}
-use Rattle.script.specs.declared.remarks.Remark.the-variants.{ListTooLong, FileTooLong, NotHex}
+use Rattle.script.specs.Calls.{surveyForms, figuresForms, isForm, placeBy, placeOf, orElse, numberJudged, judgedNumbers, judgedList, judgedHex, judgedWord}
+use Rattle.script.specs.declared.words.Number.{Number}
+use Rattle.script.specs.declared.words.Number.the-variants.{Value, NotANumber as noNumber, TooLarge}
+use Rattle.script.specs.declared.remarks.Remark.the-variants.{NumberTooLarge, ListTooLong, FileTooLong, NotHex}
 use Rattle.script.specs.declared.calls.Judged.the-variants.{Fits, NoCall}
 use Rattle.script.proofs.laws.Parts.{part-at, parts-counted}
 use Rattle.script.proofs.laws.Hex.{decimal-range, letter-range}
@@ -154,7 +157,7 @@ abbrev pub placesIn : List (List ℕ) → List ℕ
 placesIn forms = map (λ (form : List ℕ). placeOf form forms) forms
 
 -- it is the form's own: a name with so many words is one call's alone
-pub each-of-survey : placesIn surveyForms ≡ 0 ∷ 1 ∷ 2 ∷ 3 ∷ 4 ∷ 5 ∷ 6 ∷ 7 ∷ 8 ∷ 9 ∷ 10 ∷ 11 ∷ 12 ∷ 13 ∷ 14 ∷ 15 ∷ []
+pub each-of-survey : placesIn surveyForms ≡ 0 ∷ 1 ∷ 2 ∷ 3 ∷ 4 ∷ 5 ∷ 6 ∷ 7 ∷ 8 ∷ 9 ∷ 10 ∷ 11 ∷ 12 ∷ 13 ∷ 14 ∷ 15 ∷ 16 ∷ 17 ∷ 18 ∷ 19 ∷ 20 ∷ 21 ∷ 22 ∷ []
 unfolding placeOf
 each-of-survey = refl
 
@@ -221,6 +224,23 @@ module _ (line : List ℕ) (forms : List (List ℕ)) where
       by-place
       (λ g f. rw f (name-too line (getD forms (placeBy true line forms) []) (form-found true line forms g)))
       (λ g f. rw f (form-found false line forms (omega arith)))
+
+-- a vessel number that fits is the number that its word is, and none is handed on as the greatest of its type
+pub vessel-fits : (word : List ℕ) → judgedWord (ascii "vessel") word ≡ Fits → numberOf word ≡ Value (measureOf word)
+unfolding judgedWord
+vessel-fits word e = by (numberOf word) e
+  where
+    by : (n : Number) → orElse (numberJudged n) (cond (ltb 4294967295 (valueIn n)) (NoCall NumberTooLarge) Fits) ≡ Fits
+        → n ≡ Value (min (valueIn n) 4294967295)
+    by (Value x) f = up-to (ltb 4294967295 x) refl f
+      where
+        up-to : (b : Bool) → ltb 4294967295 x ≡ b → cond b (NoCall NumberTooLarge) Fits ≡ Fits → Value x ≡ Value (min x 4294967295)
+        up-to true t f = let z : _≡_ {A = ℕ} 0 1 = cc in absurd (omega arith)
+        up-to false t f =
+            let l : x ≤ 4294967295 = ltb-false 4294967295 x t in
+            ap Value (omega arith)
+    by noNumber f = let z : _≡_ {A = ℕ} 0 1 = cc in absurd (omega arith)
+    by TooLarge f = let z : _≡_ {A = ℕ} 0 1 = cc in absurd (omega arith)
 
 -- a list that fits has no more numbers than 1,024, so that all of them are laid into so many places
 pub list-fits : (list : List ℕ) → judgedList list ≡ Fits → length (measuresOf list) ≤ 1024

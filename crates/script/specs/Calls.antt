@@ -24,9 +24,13 @@ use Rattle.script.specs.declared.calls.Line.the-variants.{Passed, Call, 
 abbrev pub surveyForms : List (List ℕ)
 surveyForms =
     ascii "open number"
+    ∷ ascii "open number vessel"
     ∷ ascii "enter number number number number number list list"
+    ∷ ascii "enter number number number number number list list number"
     ∷ ascii "enter number number number number number list list number number"
+    ∷ ascii "enter number number number number number list list number number number"
     ∷ ascii "tank number number number number number list list"
+    ∷ ascii "tank number number number number number list list number"
     ∷ ascii "withdraw number"
     ∷ ascii "mark number number"
     ∷ ascii "undo"
@@ -34,9 +38,12 @@ surveyForms =
     ∷ ascii "counts"
     ∷ ascii "report number"
     ∷ ascii "write number number size"
+    ∷ ascii "write number number size number"
     ∷ ascii "writef number number size fill"
+    ∷ ascii "writef number number size fill number"
     ∷ ascii "read hex"
     ∷ ascii "before number hex"
+    ∷ ascii "move hex number number size fill"
     ∷ ascii "zones number number number number"
     ∷ ascii "spaces"
     ∷ []
@@ -99,13 +106,15 @@ judgedHex word =
     cond (isEmptyList word) Fits
     (cond (ltb 131072 (length word)) (NoCall FileTooLong) (cond (isHex word) Fits (NoCall NotHex)))
 
--- a word, by the form's word for it: "SIZE is at most 65,536"; FILL is "0 to 255"
+-- a word, by the form's word for it: "SIZE is at most 65,536"; FILL is "0 to 255"; "Only a vessel number has no value outside its range, so
+-- there a number over 4,294,967,295 makes the line no call"
 unfoldable pub judgedWord : List ℕ → List ℕ → Judged
 judgedWord asked word =
     cond (sameText asked (ascii "list")) (judgedList word)
     (cond (sameText asked (ascii "size")) (judgedUpTo 65536 BufferTooLarge word)
     (cond (sameText asked (ascii "fill")) (judgedUpTo 255 NotAByte word)
-    (cond (sameText asked (ascii "hex")) (judgedHex word) (judgedNumber word))))
+    (cond (sameText asked (ascii "vessel")) (judgedUpTo 4294967295 NumberTooLarge word)
+    (cond (sameText asked (ascii "hex")) (judgedHex word) (judgedNumber word)))))
 
 -- words, as many as are asked, from left to right
 abbrev pub judgedWords : List (List ℕ) → List (List ℕ) → Judged

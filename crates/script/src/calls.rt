@@ -27,6 +27,8 @@ const MOST_NUMBERS: usize = 1024;
 const GREATEST_SIZE: u64 = 65536;
 
 const GREATEST_BYTE: u64 = 255;
+
+const GREATEST_VESSEL: u64 = 4294967295;
 // Two digits a byte.
 const MOST_DIGITS: usize = 131072;
 
@@ -36,9 +38,13 @@ pub fn survey_line(line: &[u8]) -> Line
 {
     line_by(
         b"open number\n\
+          open number vessel\n\
           enter number number number number number list list\n\
+          enter number number number number number list list number\n\
           enter number number number number number list list number number\n\
+          enter number number number number number list list number number number\n\
           tank number number number number number list list\n\
+          tank number number number number number list list number\n\
           withdraw number\n\
           mark number number\n\
           undo\n\
@@ -46,9 +52,12 @@ pub fn survey_line(line: &[u8]) -> Line
           counts\n\
           report number\n\
           write number number size\n\
+          write number number size number\n\
           writef number number size fill\n\
+          writef number number size fill number\n\
           read hex\n\
           before number hex\n\
+          move hex number number size fill\n\
           zones number number number number\n\
           spaces",
         line,
@@ -167,6 +176,9 @@ fn judge_word(asked: &[u8], word: &[u8]) -> Judged
     }
     if words::same(asked, b"fill") {
         return judge_up_to(word, GREATEST_BYTE, Remark::NotAByte);
+    }
+    if words::same(asked, b"vessel") {
+        return judge_up_to(word, GREATEST_VESSEL, Remark::NumberTooLarge);
     }
     if words::same(asked, b"hex") {
         return judge_hex(word);

@@ -1,12 +1,11 @@
 -- What each call on a sheet answers.
 use Prim.Native.Nat.{ℕ, _+_, _-_}
-use mathlib.Core.Bool.{Bool, true, false, cond, not, _&&_, _||_}
+use mathlib.Core.Bool.{Bool, true, cond, not, _&&_, _||_}
 use mathlib.Core.List.{List, [], _∷_, _++_}
 use lib.Dec.{eqb, ltb}
 use lib.ListN.{getD}
 use Rattle.measure.specs.Ranges.{includes, tonnageLengths}
 use Rattle.measure.specs.Refusals.{firstOf}
-use Rattle.measure.specs.Volumes.{hundredths}
 use Rattle.measure.specs.Kinds.{kindOf}
 use Rattle.measure.specs.Offsets.{mOf, measured}
 use Rattle.measure.specs.Roundings.{passedOn, noRoundings}
@@ -18,7 +17,7 @@ use Rattle.standard.specs.Rules.{entryTests, withdrawTests, markTests}
 use Rattle.standard.specs.Gross.{gross, net, needsMark}
 use Rattle.spaces.specs.declared.space.Space.{Space}
 use Rattle.spaces.specs.declared.sums.Amount.the-variants.{Lengths}
-use Rattle.sheet.specs.Sheet.{standing, usable, changeOf, noChange, blank}
+use Rattle.sheet.specs.Sheet.{standing, usable, changeOf, noChange, blank, notOpen}
 use Rattle.sheet.specs.Changes.{made, takenBack, withChanges, noted}
 use Rattle.sheet.specs.Ends.{endsFit, pointedWithArea}
 use Rattle.sheet.specs.declared.changes.Change.{Change}
@@ -29,13 +28,15 @@ use Rattle.sheet.specs.declared.calls.Changed.{Changed}
 use Rattle.sheet.specs.declared.calls.Entering.{Entering}
 use Rattle.sheet.specs.declared.calls.Counted.{Counted}
 use Rattle.sheet.specs.declared.calls.Reported.{Reported}
+use Rattle.sheet.specs.declared.calls.Figures.{Figures}
 
--- "A sheet is opened with the tonnage length." "A refused open .. hands back a sheet not open."
-unfoldable pub openedWith : Hundredths → Changed
-openedWith length =
+-- "A sheet is opened with the tonnage length"; "the vessel number is given at opening" (T-05 of document 02). "A refused open .. hands
+-- back a sheet not open."
+unfoldable pub openedWith : Hundredths → ℕ → Changed
+openedWith length vessel =
     cond (includes tonnageLengths length.0)
-    (record { number = 0; sheet = blank true length })
-    (record { number = 2; sheet = blank false (hundredths 0) })
+    (record { number = 0; sheet = blank true length vessel })
+    (record { number = 2; sheet = notOpen })
 
 -- "A refused change, undo or redo hands back the sheet as it came."
 abbrev pub answered : ℕ → Sheet → Sheet → Changed
@@ -56,6 +57,7 @@ entryOf e m tonnage =
       kind = e .kind;
       standing = e .standing;
       m = m;
+      deck = e .deck;
       tonnage = tonnage;
       length = e .length;
     }
@@ -68,15 +70,19 @@ spaceOf L e heights breadths =
 abbrev pub measuredFor : Sheet → Entry → List ℕ → List ℕ → Measured
 measuredFor s e heights breadths = measured (e .kind) (s .length) (e .length) heights breadths
 
--- 2 by what it says beside its measures: "Standing 0 to 3", and of a U its ends
+-- 2 by a standing or a deck: "Standing 0 to 3"; "a deck above 99 on entry" (T-05)
+abbrev pub outOfRange : (standing deck : ℕ) → Bool
+outOfRange standing deck = ltb 3 standing || ltb 99 deck
+
+-- 2 by what an entry says beside its measures: its standing, its deck, and of a U its ends
 abbrev pub misstated : Entry → Bool
-misstated e = ltb 3 (e .standing) || not (endsFit e)
+misstated e = outOfRange (e .standing) (e .deck) || not (endsFit e)
 
 abbrev pub enterNumber : Sheet → Entry → List ℕ → List ℕ → ℕ
 enterNumber s e heights breadths =
     let m = measuredFor s e heights breadths in
     firstOf
-    -- 1: sheet not open; 2: standing or an end outside its range; 2 or 3, as its offsets are judged; then 4 to 10; and 19, "after all the
+    -- 1: sheet not open; 2: standing, deck or an end outside its range; 2 or 3, as its offsets are judged; then 4 to 10; and 19, "after all the
     -- others"
     ((not (usable s), 1)
     ∷ (misstated e, 2)
@@ -171,3 +177,8 @@ reportedWith n s =
 
 unfoldable pub reported : Sheet → ℕ → Reported
 reported s justified = reportedWith (reportNumber s justified) s
+
+-- what it tells, without the sheet
+abbrev pub figuresOf : Sheet → ℕ → Figures
+figuresOf s justified =
+    record { number = reported s justified .number; gross = reported s justified .gross; net = reported s justified .net }

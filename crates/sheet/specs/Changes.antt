@@ -48,6 +48,7 @@ withStanding xs s =
     record {
       opened = s .opened;
       length = s .length;
+      vessel = s .vessel;
       spaces = xs ++ drop (length xs) (s .spaces);
       count = length xs;
       changes = s .changes;
@@ -70,6 +71,7 @@ withChanges changes undoable redoable s =
     record {
       opened = s .opened;
       length = s .length;
+      vessel = s .vessel;
       spaces = s .spaces;
       count = s .count;
       changes = changes;

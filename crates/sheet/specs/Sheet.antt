@@ -1,7 +1,7 @@
 -- A sheet: "It holds 200 places for spaces, kept in order of entry", and its open changes.
 use Prim.Native.Nat.{ℕ, _-_}
 use mathlib.Core.Path.{_≡_, refl}
-use mathlib.Core.Bool.{Bool, cond, _&&_}
+use mathlib.Core.Bool.{Bool, false, cond, _&&_}
 use mathlib.Core.List.{List}
 use lib.Dec.{eqb, leb, ltb}
 use lib.ListN.{length, take, getD, replicate}
@@ -47,12 +47,13 @@ kept-whole (Marked p before after) = refl
 abbrev pub noChange : OpenChange
 noChange = kept (Entered emptySpace)
 
--- a sheet with nothing on it
-unfoldable pub blank : Bool → Hundredths → Sheet
-blank opened length =
+-- a sheet with nothing on it, a tonnage length and a vessel number
+unfoldable pub blank : Bool → Hundredths → ℕ → Sheet
+blank opened length vessel =
     record {
       opened = cond opened 1 0;
       length = length;
+      vessel = vessel;
       spaces = replicate 200 emptySpace;
       count = 0;
       changes = replicate 64 noChange;
@@ -60,9 +61,16 @@ blank opened length =
       redoable = 0;
     }
 
--- what a sheet hands out: its tonnage length, how many spaces stand, the one at a place, and all the places
+-- a sheet not open
+abbrev pub notOpen : Sheet
+notOpen = blank false (hundredths 0) 0
+
+-- what a sheet hands out: its tonnage length, its vessel number, how many spaces stand, the one at a place, and all the places
 unfoldable pub lengthOf : Sheet → Hundredths
 lengthOf s = cond (usable s) (s .length) (hundredths 0)
+
+unfoldable pub vesselOf : Sheet → ℕ
+vesselOf s = cond (usable s) (s .vessel) 0
 
 unfoldable pub standingCount : Sheet → ℕ
 standingCount s = cond (usable s) (s .count) 0

@@ -2,7 +2,6 @@
 use Prim.Native.Nat.{ℕ}
 use mathlib.Core.Bool.{Bool, not, _&&_}
 use mathlib.Core.List.{List, _∷_}
-use lib.Dec.{ltb}
 use Rattle.measure.specs.Refusals.{firstOf}
 use Rattle.measure.specs.Sections.{layoutOf}
 use Rattle.measure.specs.Tanks.{tankInRange, measurable, allSections, measuredTank}
@@ -11,7 +10,7 @@ use Rattle.measure.specs.declared.offsets.Measured.{Measured}
 use Rattle.spaces.specs.declared.space.Space.{Space}
 use Rattle.standard.specs.Tanks.{underDeckWith, tankTests}
 use Rattle.sheet.specs.Sheet.{standing, usable}
-use Rattle.sheet.specs.Calls.{answered, changed}
+use Rattle.sheet.specs.Calls.{answered, changed, outOfRange}
 use Rattle.sheet.specs.declared.changes.Change.the-variants.{Entered}
 use Rattle.sheet.specs.declared.sheet.Sheet.{Sheet}
 use Rattle.sheet.specs.declared.tanks.Tank.{Tank}
@@ -26,6 +25,7 @@ tankOf k tonnage =
       kind = 5;
       standing = k .standing;
       m = 0;
+      deck = k .deck;
       tonnage = tonnage;
       length = k .length;
     }
@@ -52,9 +52,9 @@ enterTankNumber s k depths breadths =
     let L = s .length in
     let xs = standing s in
     firstOf
-    -- 1; 2: standing outside its range, then a measure; 3; then 4 to 10, and 29
+    -- 1; 2: standing or deck outside its range, then a measure; 3; then 4 to 10, and 29
     ((not (usable s), 1)
-    ∷ (ltb 3 (k .standing), 2)
+    ∷ (outOfRange (k .standing) (k .deck), 2)
     ∷ (not (tankInRange (k .length) (k .fore) depths breadths), 2)
     ∷ (sectionsWrong L xs k depths breadths, 3)
     ∷ tankTests L xs (tankIn L xs k depths breadths) (k .fore))

@@ -15,6 +15,7 @@ use measure::refusals::OUTSIDE_ITS_RANGE;
 use measure::roundings;
 use measure::roundings::Roundings;
 use measure::units::Hundredths;
+use spaces::space::GREATEST_DECK;
 use spaces::space::Space;
 use standard::gross::reckon;
 use standard::rules::entry_number;
@@ -23,7 +24,7 @@ use standard::rules::withdraw_ruling;
 ghost use mathlib.Core.Path.{_≡_};
 ghost use mathlib.Core.Bool.{_&&_};
 ghost use lib.Dec.{eqb};
-ghost use Rattle.sheet.specs.Calls.{openedWith, misstated as misstatedOf, entryOf, entering, entryRefused, withdrawn, marked, undone, redone, counted, reported};
+ghost use Rattle.sheet.specs.Calls.{openedWith, outOfRange, misstated as misstatedOf, entryOf, entering, entryRefused, withdrawn, marked, undone, redone, counted, reported, figuresOf};
 
 // What is entered: the enclosing id is looked at only of a room, and the ends only of a U: 1 inner (at a step), 2 upright, 3 pointed.
 #[repr(C)]
@@ -34,6 +35,7 @@ pub struct Entry {
     pub standing: u8,
     pub fore_end: u8,
     pub aft_end: u8,
+    pub deck: u8,
     pub length: Hundredths,
 }
 
@@ -67,12 +69,19 @@ pub struct Reported {
     pub sheet: Sheet,
 }
 
+// What a report tells, the paper's number first.
+pub struct Figures {
+    pub number: u8,
+    pub gross: u64,
+    pub net: u64,
+}
+
 impl Entry {
-    // 2 by what it says beside its measures: its standing, and of a U its ends.
+    // 2 by what it says beside its measures: its standing, its deck, and of a U its ends.
     fn misstated(self) -> bool
         ensures { λ r. ⌜ r ≡ misstatedOf self ⌝ }
     {
-        if 3 < self.standing {
+        if out_of_range(self.standing, self.deck) {
             return true;
         }
         !self.ends_fit()
@@ -93,6 +102,7 @@ impl Entry {
             kind: self.kind,
             standing: self.standing,
             m,
+            deck: self.deck,
             tonnage,
             length,
         }
@@ -113,19 +123,19 @@ impl Entering {
 }
 
 impl Sheet {
-    // A new sheet with a tonnage length; one not open where it is outside its range.
-    pub fn open(length: Hundredths) -> Changed
-        ensures { λ r. ⌜ r ≡ openedWith length ⌝ }
+    // A new sheet with a tonnage length and a vessel number; one not open where the length is outside its range.
+    pub fn open(length: Hundredths, vessel: u32) -> Changed
+        ensures { λ r. ⌜ r ≡ openedWith length vessel ⌝ }
     {
         if !tonnage_length_fits(length) {
             return Changed {
                 number: OUTSIDE_ITS_RANGE,
-                sheet: Sheet::blank(false, Hundredths(0)),
+                sheet: Sheet::closed(),
             };
         }
         Changed {
             number: 0,
-            sheet: Sheet::blank(true, length),
+            sheet: Sheet::blank(true, length, vessel),
         }
     }
 
@@ -301,39 +311,60 @@ impl Sheet {
     pub fn report(self, justified: u8) -> Reported
         ensures { λ r. ⌜ r ≡ reported self justified ⌝ }
     {
-        if !self.usable() {
-            return self.unreported(NOT_OPEN);
-        }
-        if 1 < justified {
-            return self.unreported(OUTSIDE_ITS_RANGE);
-        }
-        let spaces = self.spaces;
-        let r = reckon(spaces, self.count);
-        if r.lengths != self.length.0 as u64 {
-            return self.unreported(LENGTHS_SHORT);
-        }
-        if unjustified(r.needs_mark, justified) {
-            return self.unreported(NOT_JUSTIFIED);
-        }
+        let figures = self.figures(justified);
         Reported {
-            number: 0,
-            gross: r.gross,
-            net: r.net,
+            number: figures.number,
+            gross: figures.gross,
+            net: figures.net,
             sheet: self,
         }
     }
 
-    // "A refused report gives 0 and 0."
-    fn unreported(self, number: u8) -> Reported
-        ensures { λ r. ⌜ r ≡ record { number = number; gross = 0; net = 0; sheet = self } ⌝ }
+    // What that report tells, without the sheet, which need not be copied into the answer.
+    pub fn figures(self, justified: u8) -> Figures
+        ensures { λ r. ⌜ r ≡ figuresOf self justified ⌝ }
     {
-        Reported {
-            number,
-            gross: 0,
-            net: 0,
-            sheet: self,
+        if !self.usable() {
+            return no_figures(NOT_OPEN);
+        }
+        if 1 < justified {
+            return no_figures(OUTSIDE_ITS_RANGE);
+        }
+        let spaces = self.spaces;
+        let r = reckon(spaces, self.count);
+        if r.lengths != self.length.0 as u64 {
+            return no_figures(LENGTHS_SHORT);
+        }
+        if unjustified(r.needs_mark, justified) {
+            return no_figures(NOT_JUSTIFIED);
+        }
+        Figures {
+            number: 0,
+            gross: r.gross,
+            net: r.net,
         }
     }
+}
+
+// "A refused report gives 0 and 0."
+fn no_figures(number: u8) -> Figures
+    ensures { λ r. ⌜ r ≡ record { number = number; gross = 0; net = 0 } ⌝ }
+{
+    Figures {
+        number,
+        gross: 0,
+        net: 0,
+    }
+}
+
+// 2 by a standing or a deck.
+pub(crate) fn out_of_range(standing: u8, deck: u8) -> bool
+    ensures { λ r. ⌜ r ≡ outOfRange standing deck ⌝ }
+{
+    if 3 < standing {
+        return true;
+    }
+    GREATEST_DECK < deck
 }
 
 // Ballast over 30%, and not justified.

@@ -16,6 +16,7 @@ pub use calls::Changed;
 pub use calls::Counted;
 pub use calls::Entering;
 pub use calls::Entry;
+pub use calls::Figures;
 pub use calls::Reported;
 pub use resume::Resumed;
 pub use sheet::Sheet;

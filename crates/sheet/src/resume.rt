@@ -38,14 +38,14 @@ impl Sheet {
     }
 
     // The first `count` of the records, 200 at the most.
-    pub fn resume(length: Hundredths, records: [Space; 200], count: usize) -> Resumed
-        ensures { λ r. ⌜ r ≡ resumed length (take count records) ⌝ }
+    pub fn resume(length: Hundredths, vessel: u32, records: [Space; 200], count: usize) -> Resumed
+        ensures { λ r. ⌜ r ≡ resumed length vessel (take count records) ⌝ }
     {
         if !tonnage_length_fits(length) {
             return Resumed {
                 number: OUTSIDE_ITS_RANGE,
                 position: 0,
-                sheet: Sheet::blank(false, Hundredths(0)),
+                sheet: Sheet::closed(),
             };
         }
         let n = used(count);
@@ -54,10 +54,10 @@ impl Sheet {
             return Resumed {
                 number: refused.number,
                 position: refused.position,
-                sheet: Sheet::blank(false, Hundredths(0)),
+                sheet: Sheet::closed(),
             };
         }
-        let sheet = Sheet::blank(true, length).with_records(records, n);
+        let sheet = Sheet::blank(true, length, vessel).with_records(records, n);
         Resumed {
             number: 0,
             position: 0,

@@ -7,9 +7,7 @@ use measure::units::Hundredths;
 use spaces::space::Space;
 use spaces::space::empty;
 ghost use mathlib.Core.Path.{_≡_};
-ghost use mathlib.Core.Bool.{false};
-ghost use Rattle.measure.specs.Volumes.{hundredths};
-ghost use Rattle.sheet.specs.Sheet.{blank as blankOf, usable as usableOf, standingCount, spaceAt, placesOf, lengthOf};
+ghost use Rattle.sheet.specs.Sheet.{blank as blankOf, notOpen, usable as usableOf, standingCount, spaceAt, placesOf, lengthOf, vesselOf};
 ghost use Rattle.sheet.specs.Handed.{Judged};
 
 #[repr(C)]
@@ -25,25 +23,29 @@ pub struct Sheet {
     pub(crate) changes: [OpenChange; 64],
     pub(crate) undoable: usize,
     pub(crate) redoable: usize,
+    // The vessel number, 0 for none.
+    pub(crate) vessel: u32,
 }
 
 impl Sheet {
     // A sheet with nothing on it.
-    pub(crate) fn blank(opened: bool, length: Hundredths) -> Sheet
-        ensures { λ r. ⌜ r ≡ blankOf opened length ⌝ }
+    pub(crate) fn blank(opened: bool, length: Hundredths, vessel: u32) -> Sheet
+        ensures { λ r. ⌜ r ≡ blankOf opened length vessel ⌝ }
     {
+        let open_mark = opened as u8;
         let none = empty();
         let free = OpenChange::keeping(Change::Entered(none));
         let spaces = [none; 200];
         let changes = [free; 64];
         Sheet {
-            opened: opened as u8,
+            opened: open_mark,
             length,
             spaces,
             count: 0,
             changes,
             undoable: 0,
             redoable: 0,
+            vessel,
         }
     }
 
@@ -69,9 +71,9 @@ impl Sheet {
 
     // A sheet not open.
     pub fn closed() -> Sheet
-        ensures { λ r. ⌜ r ≡ blankOf false (hundredths 0) ⌝ }
+        ensures { λ r. ⌜ r ≡ notOpen ⌝ }
     {
-        Sheet::blank(false, Hundredths(0))
+        Sheet::blank(false, Hundredths(0), 0)
     }
 
     // The tonnage length; 0 where the sheet isn't open.
@@ -82,6 +84,16 @@ impl Sheet {
             return self.length;
         }
         Hundredths(0)
+    }
+
+    // The vessel number; 0 where the sheet isn't open.
+    pub fn vessel(self) -> u32
+        ensures { λ r. ⌜ r ≡ vesselOf self ⌝ }
+    {
+        if self.usable() {
+            return self.vessel;
+        }
+        0
     }
 
     // How many spaces stand; none where the sheet isn't open.

@@ -1,5 +1,6 @@
 // The entry of a tank (T-01 of document 02): a room that follows the hull, measured in the U that it names.
 use crate::calls::Changed;
+use crate::calls::out_of_range;
 use crate::changes::Change;
 use crate::refusals::NOT_OPEN;
 use crate::sheet::Sheet;
@@ -24,6 +25,7 @@ pub struct Tank {
     pub id: u16,
     pub within: u16,
     pub standing: u8,
+    pub deck: u8,
     pub length: Hundredths,
     pub fore: Hundredths,
 }
@@ -57,6 +59,7 @@ impl Tank {
             kind: ROOM,
             standing: self.standing,
             m: 0,
+            deck: self.deck,
             tonnage,
             length,
         }
@@ -74,7 +77,7 @@ impl Sheet {
                 sheet: self,
             };
         }
-        if 3 < tank.standing {
+        if out_of_range(tank.standing, tank.deck) {
             return Changed {
                 number: OUTSIDE_ITS_RANGE,
                 sheet: self,

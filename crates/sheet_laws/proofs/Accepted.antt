@@ -23,7 +23,7 @@ use Rattle.spaces_laws.proofs.Mark.{facts-of-mark}
 use Rattle.spaces_laws.proofs.Tanks.{tank-is-room}
 use Rattle.sheet.specs.Sheet.{standing, usable}
 use Rattle.sheet.specs.Ends.{pointedWithArea}
-use Rattle.sheet.specs.Calls.{spaceOf, measuredFor, misstated, entered, withdrawn, marked}
+use Rattle.sheet.specs.Calls.{spaceOf, measuredFor, outOfRange, misstated, entered, withdrawn, marked}
 use Rattle.sheet.specs.Tanks.{tankOf, tankIn, sectionsWrong, tankEntered}
 use Rattle.sheet.specs.declared.sheet.Sheet.{Sheet}
 use Rattle.sheet.specs.declared.calls.Entry.{Entry}
@@ -62,8 +62,10 @@ enter-accepted s e hs bs z =
       without-area = passed (pointedWithArea e (endsOf hs bs)) 19 [] (ruled .1) (λ w. omega arith) .0;
     }
 
--- of a tank: its measures are in range, its sections and breadths are not wrong, and none of the rules of what stands applies
+-- of a tank: its standing, its deck and its measures are in range, its sections and breadths are not wrong, and none of the rules of what
+-- stands applies
 pub record TankAccepted (s : Sheet) (k : Tank) (ds bs : List ℕ) : Type 0 where
+  pub well-said : outOfRange (k .standing) (k .deck) ≡ false
   pub in-range : tankInRange (k .length) (k .fore) ds bs ≡ true
   pub sections-right : sectionsWrong (s .length) (standing s) k ds bs ≡ false
   pub number : tankNumber (s .length) (standing s) (tankIn (s .length) (standing s) k ds bs) (k .fore) ≡ 0
@@ -74,11 +76,11 @@ tank-accepted s k ds bs z =
     let ranged = tankInRange (k .length) (k .fore) ds bs in
     let wrong = sectionsWrong (s .length) (standing s) k ds bs in
     let tests = tankTests (s .length) (standing s) (tankIn (s .length) (standing s) k ds bs) (k .fore) in
-    let one = passed (not (usable s)) 1 ((ltb 3 (k .standing), 2) ∷ (not ranged, 2) ∷ (wrong, 3) ∷ tests) z (λ w. omega arith) in
-    let two = passed (ltb 3 (k .standing)) 2 ((not ranged, 2) ∷ (wrong, 3) ∷ tests) (one .1) (λ w. omega arith) in
+    let one = passed (not (usable s)) 1 ((outOfRange (k .standing) (k .deck), 2) ∷ (not ranged, 2) ∷ (wrong, 3) ∷ tests) z (λ w. omega arith) in
+    let two = passed (outOfRange (k .standing) (k .deck)) 2 ((not ranged, 2) ∷ (wrong, 3) ∷ tests) (one .1) (λ w. omega arith) in
     let measures = passed (not ranged) 2 ((wrong, 3) ∷ tests) (two .1) (λ w. omega arith) in
     let sections = passed wrong 3 tests (measures .1) (λ w. omega arith) in
-    record { in-range = not-false _ (measures .0); sections-right = sections .0; number = sections .1 }
+    record { well-said = two .0; in-range = not-false _ (measures .0); sections-right = sections .0; number = sections .1 }
 
 pub a-room : (L : Hundredths) (xs : List Space) (k : Tank) (ds bs : List ℕ) → isRoom (tankIn L xs k ds bs) ≡ true
 unfolding tankOf
@@ -104,7 +106,7 @@ paper-rules =
           let a = enter-accepted s e hs bs z in
           record {
             then = standing s ++ (x ∷ []);
-            allowed = resumable-entered x r (entry-well-recorded (s .length) e hs bs (a .offsets)) (a .number);
+            allowed = resumable-entered x r (entry-well-recorded (s .length) e hs bs (a .well-said) (a .offsets)) (a .number);
             leads = entry-leads x (spaceEntered x) (standing s) refl;
           };
       tank-fits = λ s k ds bs r z.
@@ -112,7 +114,7 @@ paper-rules =
           let a = tank-accepted s k ds bs z in
           record {
             then = standing s ++ (x ∷ []);
-            allowed = resumable-entered x r (tank-well-recorded (s .length) (standing s) k ds bs (a .in-range)) (tank-is-room (s .length) (standing s) x (k .fore) (a-room (s .length) (standing s) k ds bs) (a .number));
+            allowed = resumable-entered x r (tank-well-recorded (s .length) (standing s) k ds bs (a .well-said) (a .in-range)) (tank-is-room (s .length) (standing s) x (k .fore) (a-room (s .length) (standing s) k ds bs) (a .number));
             leads = entry-leads x (tankGiven (s .length) k ds bs) (standing s) refl;
           };
       withdrawal-fits = λ s id r z.

@@ -37,9 +37,10 @@ given-within s v justified z =
     }
 
 -- from the sheet of some recorded spaces, each accepted in order
-pub after-any-run-from-records : {L : Hundredths} {records : List Space} {first : Sheet} → OfRecords L records first → AfterAnyRun L records first
-after-any-run-from-records {L} {records} o calls =
-    let (history, now) = history-after-any-run Resumable paper-rules L records (o .resumable) calls in
+pub after-any-run-from-records : {L : Hundredths} {vessel : ℕ} {records : List Space} {first : Sheet} → OfRecords L vessel records first
+    → AfterAnyRun L records first
+after-any-run-from-records {L} {vessel} {records} o calls =
+    let (history, now) = history-after-any-run Resumable paper-rules L records vessel (o .resumable) calls in
     let v = now .valid in
     rw (o .sheet-is)
     (record {
@@ -47,5 +48,5 @@ after-any-run-from-records {L} {records} o calls =
       none-refused = resumable-exactly L _ .1 now;
       neither-above = λ y z m n p q. neither-above-the-other v m n p q;
       taken-off-at-most-whole = taken-off-at-most-whole v;
-      report-within = given-within (after calls (withStanding records (blank true L))) v;
+      report-within = given-within (after calls (withStanding records (blank true L vessel))) v;
     })

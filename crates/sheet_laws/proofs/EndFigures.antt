@@ -20,7 +20,7 @@ use Rattle.sheet.specs.Calls.{openedWith, entryOf, spaceOf, entered}
 use Rattle.sheet.specs.declared.calls.Entry.{Entry}
 
 abbrev pub box : (fore aft : ℕ) → Entry
-box fore aft = record { id = 1; within = 0; kind = 1; standing = 0; «fore_end» = fore; «aft_end» = aft; length = hundredths 4800 }
+box fore aft = record { id = 1; within = 0; kind = 1; standing = 0; «fore_end» = fore; «aft_end» = aft; deck = 0; length = hundredths 4800 }
 
 -- all of it 12 ft deep, and with no depth at its ends
 abbrev pub whole : List ℕ
@@ -30,7 +30,7 @@ abbrev pub tapered : List ℕ
 tapered = 0 ∷ replicate 5 1200 ++ (0 ∷ [])
 
 abbrev pub numberOf : (fore aft : ℕ) → List ℕ → ℕ
-numberOf fore aft depths = entered (openedWith (hundredths 4800) .sheet) (box fore aft) depths (replicate 35 2000) .number
+numberOf fore aft depths = entered (openedWith (hundredths 4800) 0 .sheet) (box fore aft) depths (replicate 35 2000) .number
 
 abbrev pub tonnageOf : (fore aft : ℕ) → List ℕ → ℕ
 tonnageOf fore aft depths = spaceOf (hundredths 4800) (box fore aft) depths (replicate 35 2000) .tonnage

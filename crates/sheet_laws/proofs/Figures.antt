@@ -22,23 +22,23 @@ use Rattle.sheet.specs.declared.sheet.Sheet.{Sheet}
 
 -- a U as long as the tonnage length 4800, a hatchway, a water ballast room in the U, and an exempt S, of these tonnages
 abbrev pub hull : ℕ → Space
-hull tonnage = record { id = 1; within = 0; kind = 1; standing = 0; m = 4; tonnage = tonnage; length = hundredths 4800 }
+hull tonnage = record { id = 1; within = 0; kind = 1; standing = 0; m = 4; deck = 0; tonnage = tonnage; length = hundredths 4800 }
 
 abbrev pub hatchway : ℕ → Space
-hatchway tonnage = record { id = 2; within = 0; kind = 4; standing = 0; m = 0; tonnage = tonnage; length = hundredths 500 }
+hatchway tonnage = record { id = 2; within = 0; kind = 4; standing = 0; m = 0; deck = 0; tonnage = tonnage; length = hundredths 500 }
 
 abbrev pub ballast : ℕ → Space
-ballast tonnage = record { id = 3; within = 1; kind = 5; standing = 2; m = 0; tonnage = tonnage; length = hundredths 500 }
+ballast tonnage = record { id = 3; within = 1; kind = 5; standing = 2; m = 0; deck = 0; tonnage = tonnage; length = hundredths 500 }
 
 abbrev pub exempted : ℕ → Space
-exempted tonnage = record { id = 4; within = 0; kind = 3; standing = 1; m = 0; tonnage = tonnage; length = hundredths 500 }
+exempted tonnage = record { id = 4; within = 0; kind = 3; standing = 1; m = 0; deck = 0; tonnage = tonnage; length = hundredths 500 }
 
 -- spaces whose gross with only standing 1 taken off is 1000, and T 1200: 30% of T, or of what standing 2 leaves, would answer otherwise
 abbrev pub ballasted : ℕ → List Space
 ballasted tonnage = hull 1000 ∷ exempted 200 ∷ ballast tonnage ∷ []
 
 abbrev pub sheet : List Space → Sheet
-sheet xs = withStanding xs (blank true (hundredths 4800))
+sheet xs = withStanding xs (blank true (hundredths 4800) 0)
 
 pub record Starred : Type 0 where
   pub of-one-space : measured.Figures

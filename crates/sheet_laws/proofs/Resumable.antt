@@ -7,7 +7,7 @@ use mathlib.Core.List.{List, [], _∷_, _++_, List·Memᴰ·head, List·Memᴰ·
 use mathlib.Core.Logic.{_↔_, ⊎-elim}
 use native.Mathlib.Omega.{arith}
 use borrow.Author.Tests.{eqb-true, eqb-false, eq-eqb, le-ltb}
-use lib.Dec.{eqb}
+use lib.Dec.{eqb, ltb}
 use Rattle.measure.specs.Kinds.{kindOf, isKind}
 use Rattle.measure.specs.Ranges.{includes, includesAll, tonnageLengths, lengths, fores, heights, breadths}
 use Rattle.measure.specs.Offsets.{inRange, measured}
@@ -22,7 +22,7 @@ use Rattle.spaces.specs.declared.space.Space.{Space}
 use Rattle.standard.specs.Rules.{entryTests, entryNumber, withdrawNumber, markNumber}
 use Rattle.standard.specs.Tanks.{underDeckWith}
 use Rattle.standard.specs.Valid.{ValidFrom, done, next}
-use Rattle.spaces.proofs.laws.Cases.{by-test}
+use Rattle.spaces.proofs.laws.Cases.{by-test, or-fails}
 use Rattle.spaces_laws.proofs.Tests.{or-fails-of}
 use Rattle.spaces_laws.specs.Above.{_∈_}
 use Rattle.spaces_laws.proofs.Lists.{all-snoc}
@@ -32,10 +32,11 @@ use Rattle.spaces_laws.specs.Changes.{without, marking, marked}
 use Rattle.spaces_laws.proofs.Withdraw.{withdrawal-by-id-keeps-valid}
 use Rattle.spaces_laws.proofs.Mark.{mark-by-id-keeps-valid}
 use Rattle.sheet.specs.Sheet.{blank}
-use Rattle.sheet.specs.Calls.{openedWith, entryOf, spaceOf}
+use Rattle.sheet.specs.Calls.{openedWith, entryOf, spaceOf, outOfRange, misstated}
 use Rattle.sheet.specs.Tanks.{tankOf, tankIn}
 use Rattle.standard.specs.Records.{misrecorded, recordNumber, firstRefused}
 use Rattle.sheet.specs.Resume.{resumed}
+use Rattle.sheet.specs.declared.sheet.Sheet.{Sheet}
 use Rattle.sheet.specs.declared.calls.Entry.{Entry}
 use Rattle.sheet.specs.declared.tanks.Tank.{Tank}
 use Rattle.standard.specs.declared.records.RefusedRecord.{RefusedRecord}
@@ -77,18 +78,18 @@ resumable-exactly L xs = (
 -- ---- a sheet of recorded spaces, on which no change is open yet
 
 -- one just opened, on which nothing stands
-pub opened-of-records : (L : Hundredths) → openedWith L .number ≡ 0 → OfRecords L [] (openedWith L .sheet)
+pub opened-of-records : (L : Hundredths) (vessel : ℕ) → openedWith L vessel .number ≡ 0 → OfRecords L vessel [] (openedWith L vessel .sheet)
 unfolding openedWith blank
-opened-of-records L z =
+opened-of-records L vessel z =
     by-test (includes tonnageLengths L.0)
     (λ t. record { length-in-range = t; resumable = resumable-exactly L [] .0 refl; without-m = refl; sheet-is = rw t })
     (λ f. let two : _≡_ {A = ℕ} 2 0 = rw f at z in absurd (omega arith))
 
 -- and one resumed, on which its records stand, their m gone
-pub resumed-of-records : (L : Hundredths) (records : List Space) → resumed L records .number ≡ 0
-    → OfRecords L (allRecorded records) (resumed L records .sheet)
-unfolding resumed
-resumed-of-records L records z =
+pub resumed-of-records : (L : Hundredths) (vessel : ℕ) (records : List Space) → resumed L vessel records .number ≡ 0
+    → OfRecords L vessel (allRecorded records) (resumed L vessel records .sheet)
+unfolding resumed blank
+resumed-of-records L vessel records z =
     by-test (includes tonnageLengths L.0)
     (λ t.
     by-test (eqb (firstRefused L [] records .number) 0)
@@ -97,6 +98,18 @@ resumed-of-records L records z =
     record { length-in-range = t; resumable = resumable-exactly L (allRecorded records) .0 none; without-m = recorded-twice records; sheet-is = rw (t, u) })
     (λ f. absurd (eqb-false _ _ f (rw (t, f) at z))))
     (λ f. let two : _≡_ {A = ℕ} 2 0 = rw f at z in absurd (omega arith))
+
+-- each has the vessel number that it was given
+vessel-of-records : {L : Hundredths} {vessel : ℕ} {records : List Space} {s : Sheet} → OfRecords L vessel records s → s .vessel ≡ vessel
+unfolding blank
+vessel-of-records o = ap (λ (s : Sheet). s .vessel) (o .sheet-is)
+
+pub opened-vessel : (L : Hundredths) (vessel : ℕ) → openedWith L vessel .number ≡ 0 → openedWith L vessel .sheet .vessel ≡ vessel
+opened-vessel L vessel z = vessel-of-records (opened-of-records L vessel z)
+
+pub resumed-vessel : (L : Hundredths) (vessel : ℕ) (records : List Space) → resumed L vessel records .number ≡ 0
+    → resumed L vessel records .sheet .vessel ≡ vessel
+resumed-vessel L vessel records z = vessel-of-records (resumed-of-records L vessel records z)
 
 -- ---- the changes: each keeps the sheet valid, and makes no record that isn't well recorded
 
@@ -133,30 +146,37 @@ resumable-marked {L} {xs} id standing r e =
           sym (ap misrecorded q) ∙ r .well-recorded z k;
     }
 
--- an entry whose offsets are accepted is well recorded: its length was in range, its tonnage is at most 100,000,000, and an enclosing id
--- is recorded only of a room
+-- "a deck above 99" is refused on entry
+deck-fits : (standing deck : ℕ) → outOfRange standing deck ≡ false → ltb 99 deck ≡ false
+deck-fits standing deck stated = or-fails (ltb 3 standing) (ltb 99 deck) stated .1
+
+-- an entry that is well stated and whose offsets are accepted is well recorded: its length and its deck were in range, its tonnage is at most
+-- 100,000,000, and an enclosing id is recorded only of a room
 pub entry-well-recorded : (t : Hundredths) (e : Entry) (hs bs : List ℕ) → let m = measured (e .kind) t (e .length) hs bs in
-    m .number ≡ 0 → misrecorded (spaceOf t e hs bs) ≡ false
+    misstated e ≡ false → m .number ≡ 0 → misrecorded (spaceOf t e hs bs) ≡ false
 unfolding inRange entryOf
-entry-well-recorded t e hs bs none =
+entry-well-recorded t e hs bs stated none =
     let k = kindOf (e .kind) in
     let l = e .length in
     let m = measured (e .kind) t l hs bs in
+    let deck = deck-fits (e .standing) (e .deck) (or-fails (outOfRange (e .standing) (e .deck)) _ stated .0) in
     let ranged : inRange k t l hs bs ≡ true = measured-exactly (e .kind) t l hs bs .only-0 none .0 in
     let measures = and-left _ (includesAll (breadths k) bs) ranged in
     let both = and-left _ (includesAll (heights k) hs) measures in
     let long : includes (lengths k) (e .length .0) ≡ true = and-right (isKind k && includes tonnageLengths t.0) (includes (lengths k) (e .length .0)) both in
     or-fails-of _ _
-    (or-fails-of _ _ (le-ltb _ _ (measured-at-most (e .kind) t l hs bs)) (ap not long))
+    (or-fails-of _ _ (or-fails-of _ _ (le-ltb _ _ (measured-at-most (e .kind) t l hs bs)) deck) (ap not long))
     (by-test (eqb (e .kind) 5) (λ r. rw r) (λ r. rw r))
 
--- and so is a tank whose measures are in range: it is a room
-pub tank-well-recorded : (L : Hundredths) (xs : List Space) (k : Tank) (ds bs : List ℕ) → tankInRange (k .length) (k .fore) ds bs ≡ true
+-- and so is a tank whose deck and measures are in range: it is a room
+pub tank-well-recorded : (L : Hundredths) (xs : List Space) (k : Tank) (ds bs : List ℕ) → outOfRange (k .standing) (k .deck) ≡ false
+    → tankInRange (k .length) (k .fore) ds bs ≡ true
     → misrecorded (tankIn L xs k ds bs) ≡ false
 unfolding tankInRange tankOf kindOf
-tank-well-recorded L xs k ds bs ranged =
+tank-well-recorded L xs k ds bs stated ranged =
     let u = underDeckWith (k .within) xs in
     let measures = and-left _ (includesAll (breadths UnderDeck) bs) ranged in
     let both = and-left _ (includesAll (heights UnderDeck) ds) measures in
     let long = and-left (includes (lengths Room) (k .length .0)) (includes fores (k .fore .0)) both in
-    or-fails-of _ _ (or-fails-of _ _ (le-ltb _ _ (measured-tank-at-most L (u .length) (u .m) (k .length) (k .fore) ds bs)) (ap not long)) refl
+    let tons = le-ltb _ _ (measured-tank-at-most L (u .length) (u .m) (k .length) (k .fore) ds bs) in
+    or-fails-of _ _ (or-fails-of _ _ (or-fails-of _ _ tons (deck-fits (k .standing) (k .deck) stated)) (ap not long)) refl

@@ -1,12 +1,12 @@
--- The history holds after any run of calls, under any rules whose accepted changes fit the spaces that they were accepted on: each call,
--- accepted or refused, keeps it. Stands on History.
-use Prim.Native.Nat.{ℕ, _≤_, _<_}
+-- The history holds after any run of calls, and the vessel number stays, under any rules whose accepted changes fit the spaces that they
+-- were accepted on: each call, accepted or refused, keeps it. Stands on History.
+use Prim.Native.Nat.{ℕ, _-_, _≤_, _<_}
 use mathlib.Core.Path.{_≡_, refl, sym, ap, _∙_, subst}
 use mathlib.Core.Bool.{Bool, true, cond, not}
 use mathlib.Core.List.{List, [], _∷_}
 use native.Mathlib.Omega.{arith}
 use borrow.Author.Tests.{eqb-true, eqb-false, eq-eqb, ne-eqb}
-use lib.Dec.{eqb}
+use lib.Dec.{eqb, leb}
 use lib.ListN.{length, length-replicate}
 use Rattle.measure.specs.declared.units.Hundredths.{Hundredths}
 use Rattle.measure.specs.Refusals.{firstOf}
@@ -14,8 +14,8 @@ use Rattle.spaces.specs.declared.space.Space.{Space}
 use Rattle.spaces.specs.Space.{emptySpace}
 use Rattle.spaces.proofs.laws.Cases.{by-test}
 use Rattle.sheet.specs.Sheet.{standing, usable, noChange, blank}
-use Rattle.sheet.specs.Changes.{withStanding}
-use Rattle.sheet.specs.Calls.{answered, changed, spaceOf, entered, withdrawal, withdrawn, marking, marked, undone, redone, counted, reported}
+use Rattle.sheet.specs.Changes.{withStanding, apply, applyBack, fitted, noted}
+use Rattle.sheet.specs.Calls.{answered, changed, spaceOf, entered, withdrawal, withdrawn, marking, marked, changeAt, undone, redone, counted, reported}
 use Rattle.sheet.specs.Tanks.{tankIn, tankEntered}
 use Rattle.sheet.specs.declared.changes.Change.{Change}
 use Rattle.sheet.specs.declared.changes.Change.the-variants.{Entered}
@@ -25,7 +25,7 @@ use Rattle.sheet.specs.declared.calls.Changed.{Changed}
 use Rattle.sheet.specs.declared.tanks.Tank.{Tank}
 use Rattle.sheet.proofs.laws.Calls.{applies, passes, is-open, refused}
 use Rattle.sheet_laws.specs.Run.{Call, enter, enterTank, withdraw, mark, undo, redo, counts, report, answer, after, accepted, ChangeById, spaceEntered, tankGiven, idWithdrawn, idMarked, Log, noLog, logChange, logAfter, logAfterAll, logOf, OpenChanges, noneOpen, oneMore, countsAfter, countsAfterAll, countsOf}
-use Rattle.sheet_laws.specs.Holds.{RefusedAtNil, HistoryHolds}
+use Rattle.sheet_laws.specs.Holds.{RefusedAtNil, HistoryHolds, VesselKept}
 use Rattle.sheet_laws.proofs.Undoable.{Leads, older, nothing, replayed}
 use Rattle.sheet_laws.proofs.History.{Opened, Kept, kept-usable, kept-with, kept-changed, kept-undone, kept-redone}
 
@@ -163,13 +163,43 @@ module _ (Allowed : Hundredths → List Space → Type 0) (rules : Rules Allowed
       (λ f. rw f (run-keeps calls (subst (λ (t : Sheet). KeptSo t log k) (sym (refused-changes-nothing c s (eqb-false _ _ f))) h)))
 
   -- a sheet of these spaces, with no open changes
-  at-first : Allowed L start → KeptSo (withStanding start (blank true L)) noLog noneOpen
+  at-first : (vessel : ℕ) → Allowed L start → KeptSo (withStanding start (blank true L vessel)) noLog noneOpen
   unfolding blank
-  at-first allowed =
-      let o : Opened L (blank true L) = record { is-open = refl; length-kept = refl; places = length-replicate 200 emptySpace } in
+  at-first vessel allowed =
+      let o : Opened L (blank true L vessel) = record { is-open = refl; length-kept = refl; places = length-replicate 200 emptySpace } in
       kept-with (Allowed L) start (rules .at-most-200 L) o allowed (length-replicate 64 noChange) (omega arith) (older refl) nothing refl refl
 
   -- from a sheet of spaces that are allowed: the history holds, and the spaces standing are allowed
-  pub history-after-any-run : Allowed L start → (calls : List Call) → let first = withStanding start (blank true L) in
+  pub history-after-any-run : (vessel : ℕ) → Allowed L start → (calls : List Call) → let first = withStanding start (blank true L vessel) in
       HistoryHolds L start (after calls first) (logOf L calls first) (countsOf calls first) × Allowed L (standing (after calls first))
-  history-after-any-run allowed calls = let h = run-keeps calls (at-first allowed) in (history-of-kept h, allowed-now h)
+  history-after-any-run vessel allowed calls = let h = run-keeps calls (at-first vessel allowed) in (history-of-kept h, allowed-now h)
+
+-- ---- the vessel number
+
+fitted-vessel : (xs : List Space) (s : Sheet) → fitted xs s .vessel ≡ s .vessel
+unfolding fitted
+fitted-vessel xs s = by-test (leb (length xs) 200) (λ t. rw t) (λ f. rw f)
+
+changed-vessel : (c : Change) (s : Sheet) → changed c s .vessel ≡ s .vessel
+unfolding noted
+changed-vessel c s = fitted-vessel (apply c (standing s)) s
+
+-- an answer hands back one of two sheets
+either-vessel : (r : Changed) (n : ℕ) (s next : Sheet) → r ≡ answered n s next → next .vessel ≡ s .vessel → r .sheet .vessel ≡ s .vessel
+either-vessel r n s next is same = ap (λ (x : Changed). x .sheet .vessel) is ∙ by-test (eqb n 0) (λ t. rw t same) (λ f. rw f)
+
+answer-keeps-vessel : (c : Call) (s : Sheet) → answer c s .sheet .vessel ≡ s .vessel
+unfolding answer entered tankEntered withdrawn marked undone redone counted reported
+answer-keeps-vessel (enter e hs bs) s = either-vessel (entered s e hs bs) _ s _ refl (changed-vessel (Entered (spaceOf (s .length) e hs bs)) s)
+answer-keeps-vessel (enterTank k ds bs) s = either-vessel (tankEntered s k ds bs) _ s _ refl (changed-vessel (Entered (tankIn (s .length) (standing s) k ds bs)) s)
+answer-keeps-vessel (withdraw id) s = either-vessel (withdrawn s id) _ s _ refl (changed-vessel (withdrawal s id) s)
+answer-keeps-vessel (mark id standing') s = either-vessel (marked s id standing') _ s _ refl (changed-vessel (marking s id standing') s)
+answer-keeps-vessel undo s = either-vessel (undone s) _ s _ refl (fitted-vessel (applyBack (changeAt s (s .undoable - 1)) (standing s)) s)
+answer-keeps-vessel redo s = either-vessel (redone s) _ s _ refl (fitted-vessel (apply (changeAt s (s .undoable)) (standing s)) s)
+answer-keeps-vessel counts s = refl
+answer-keeps-vessel (report justified) s = refl
+
+-- no call changes it, on any sheet
+pub vessel-kept : (first : Sheet) → VesselKept first
+vessel-kept first [] = refl
+vessel-kept first (c ∷ calls) = vessel-kept (answer c first .sheet) calls ∙ answer-keeps-vessel c first

@@ -16,9 +16,9 @@ pub data Side : Type 0 where
 -- this end there, and all else as it was
 abbrev pub saying : Side → ℕ → Entry → Entry
 saying bow end e =
-    record { id = e .id; within = e .within; kind = e .kind; standing = e .standing; «fore_end» = end; «aft_end» = e .«aft_end»; length = e .length }
+    record { id = e .id; within = e .within; kind = e .kind; standing = e .standing; «fore_end» = end; «aft_end» = e .«aft_end»; deck = e .deck; length = e .length }
 saying stern end e =
-    record { id = e .id; within = e .within; kind = e .kind; standing = e .standing; «fore_end» = e .«fore_end»; «aft_end» = end; length = e .length }
+    record { id = e .id; within = e .within; kind = e .kind; standing = e .standing; «fore_end» = e .«fore_end»; «aft_end» = end; deck = e .deck; length = e .length }
 
 abbrev pub areaAt : Side → EndAreas → ℕ
 areaAt bow a = a .fore

@@ -63,3 +63,7 @@ pub record Holds (L : Hundredths) (start : List Space) (s : Sheet) (log : Log) (
 -- all of that after any calls on the sheet `first`
 abbrev pub AfterAnyRun : Hundredths → List Space → Sheet → Type 0
 AfterAnyRun L start first = (calls : List Call) → Holds L start (after calls first) (logOf L calls first) (countsOf calls first)
+
+-- no call on the sheet changes its vessel number: "the vessel number is given at opening" (T-05 of document 02)
+abbrev pub VesselKept : Sheet → Type 0
+VesselKept first = (calls : List Call) → after calls first .vessel ≡ first .vessel

@@ -1,4 +1,5 @@
 -- Spaces that `resume` accepts, and the sheet that it makes of them.
+use Prim.Native.Nat.{ℕ}
 use mathlib.Core.Path.{_≡_}
 use mathlib.Core.Bool.{true, false}
 use mathlib.Core.List.{List}
@@ -18,10 +19,10 @@ pub record Resumable (L : Hundredths) (xs : List Space) : Type 0 where
   pub valid : Valid L xs
   pub well-recorded : (y : Space) → y ∈ xs → misrecorded y ≡ false
 
--- a sheet of recorded spaces, on which no change is open yet
-pub record OfRecords (L : Hundredths) (records : List Space) (s : Sheet) : Type 0 where
+-- a sheet of recorded spaces with a tonnage length and a vessel number, on which no change is open yet
+pub record OfRecords (L : Hundredths) (vessel : ℕ) (records : List Space) (s : Sheet) : Type 0 where
   pub length-in-range : includes tonnageLengths L.0 ≡ true
   pub resumable : Resumable L records
   -- "0 for every space read from a file or resumed"
   pub without-m : allRecorded records ≡ records
-  pub sheet-is : s ≡ withStanding records (blank true L)
+  pub sheet-is : s ≡ withStanding records (blank true L vessel)

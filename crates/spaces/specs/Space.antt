@@ -1,5 +1,5 @@
--- A space: what its record has ("Spaces"), and m, "4 or 6 for a U entered from offsets, 0 for every other space and for every space read
--- from a file or resumed" (T-01).
+-- A space: what its record has ("Spaces"), with "a deck number .. (0 to 99, 0 for none)" (T-05), and m, "4 or 6 for a U entered from
+-- offsets, 0 for every other space and for every space read from a file or resumed" (T-01).
 use Prim.Native.Nat.{ℕ}
 use mathlib.Core.Bool.{Bool, _||_}
 use mathlib.Core.List.{List, map}
@@ -8,7 +8,7 @@ use Rattle.spaces.specs.declared.space.Space.{Space}
 
 -- the record of a free place
 abbrev pub emptySpace : Space
-emptySpace = record { id = 0; within = 0; kind = 0; standing = 0; m = 0; tonnage = 0; length = record { 0 = 0 } }
+emptySpace = record { id = 0; within = 0; kind = 0; standing = 0; m = 0; deck = 0; tonnage = 0; length = record { 0 = 0 } }
 
 -- the kinds by their codes: 1 U, 2 B, 3 S, 4 H, 5 R
 abbrev pub isUnderDeck : Space → Bool
@@ -37,6 +37,7 @@ restanding standing x =
       kind = x .kind;
       standing = standing;
       m = x .m;
+      deck = x .deck;
       tonnage = x .tonnage;
       length = x .length;
     }
@@ -50,6 +51,7 @@ recorded x =
       kind = x .kind;
       standing = x .standing;
       m = 0;
+      deck = x .deck;
       tonnage = x .tonnage;
       length = x .length;
     }

@@ -1,4 +1,4 @@
-// A space: what its record has ("Spaces"), and m.
+// A space: what its record has ("Spaces"), with its deck (T-05 of document 02), and m.
 use measure::units::Hundredths;
 ghost use mathlib.Core.Path.{_≡_};
 ghost use Rattle.spaces.specs.Space.{emptySpace};
@@ -12,10 +12,15 @@ pub struct Space {
     pub standing: u8,
     // A U's parts of depth, 4 or 6, where it was entered from offsets; else 0. No record holds it.
     pub m: u8,
+    // 0 to 99, 0 for none.
+    pub deck: u8,
     // In hundredths of a ton.
     pub tonnage: u32,
     pub length: Hundredths,
 }
+
+// "A deck number on each space (0 to 99, 0 for none)".
+pub const GREATEST_DECK: u8 = 99;
 
 // The record of a free place.
 pub fn empty() -> Space
@@ -27,6 +32,7 @@ pub fn empty() -> Space
         kind: 0,
         standing: 0,
         m: 0,
+        deck: 0,
         tonnage: 0,
         length: Hundredths(0),
     }

@@ -14,11 +14,12 @@ use Rattle.standard.specs.Rules.{entryTests}
 use Rattle.spaces.specs.declared.space.Space.{Space}
 use Rattle.standard.specs.declared.records.RefusedRecord.{RefusedRecord}
 
--- a record that no entry could have made: a tonnage over 100,000,000, a length outside its range, or an enclosing id where there
--- may be none. (Its id, kind and standing are judged with the entry.)
+-- a record that no entry could have made: a tonnage over 100,000,000, a length or deck outside its range, or an enclosing id where
+-- there may be none. (Its id, kind and standing are judged with the entry.)
 abbrev pub misrecorded : Space → Bool
 misrecorded x =
     ltb 100000000 (x .tonnage)
+    || ltb 99 (x .deck)
     || not (includes (lengths (kindOf (x .kind))) (x .length .0))
     || (not (isRoom x) && not (eqb (x .within) 0))
 

@@ -11,6 +11,7 @@ use spaces::around::around_each;
 use spaces::row::Found;
 use spaces::row::lesser;
 use spaces::row::used;
+use spaces::space::GREATEST_DECK;
 use spaces::space::Space;
 ghost use mathlib.Core.Path.{_≡_};
 ghost use mathlib.Core.Bool.{cond, false};
@@ -34,6 +35,9 @@ fn misrecorded(x: Space) -> bool
     ensures { λ r. ⌜ r ≡ misrecordedOf x ⌝ }
 {
     if GREATEST_TONNAGE < x.tonnage {
+        return true;
+    }
+    if GREATEST_DECK < x.deck {
         return true;
     }
     if !length_fits(kind_of(x.kind), x.length) {

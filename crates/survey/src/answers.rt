@@ -1,5 +1,6 @@
 // Answer lines. The first number of each is the paper's number of refusal, 0 for accepted; a line that is no call is
 // answered by a remark. What a call handed back is answered, and its sheet handed on.
+use dayfile::Moved;
 use dayfile::Reading;
 use dayfile::Written;
 use libc::STDOUT_FILENO;
@@ -82,21 +83,32 @@ pub fn written(written: Written, buffer: &[u8]) -> Sheet {
     written.sheet
 }
 
-// The position, the justified mark and the start.
+// The bytes written, the position, and the whole buffer after it.
+pub fn moved(moved: Moved, buffer: &[u8]) {
+    print_number(moved.number as u64, b" ");
+    print_number(moved.bytes as u64, b" ");
+    print_number(moved.position as u64, b" ");
+    print_bytes(buffer);
+    print(b"\n");
+}
+
+// The position, the justified mark, the start and the form.
 pub fn read(reading: Reading) -> Sheet {
     print_number(reading.number as u64, b" ");
     print_number(reading.position as u64, b" ");
     print_number(reading.justified as u64, b" ");
-    print_number(reading.start as u64, b"\n");
+    print_number(reading.start as u64, b" ");
+    print_number(reading.form as u64, b"\n");
     reading.sheet
 }
 
-// Whether the sheet is open, its tonnage length, how many spaces stand, and each of them.
+// Whether the sheet is open, its tonnage length, how many spaces stand, its vessel number, and each space.
 pub fn spaces(sheet: Sheet) -> Sheet {
     print(b"0 ");
     print_number(sheet.is_open() as u64, b" ");
     print_number(sheet.tonnage_length().0 as u64, b" ");
-    print_number(sheet.standing_count() as u64, b"");
+    print_number(sheet.standing_count() as u64, b" ");
+    print_number(sheet.vessel() as u64, b"");
     print_spaces(sheet);
     print(b"\n");
     sheet
@@ -121,7 +133,8 @@ fn print_space(space: Space) {
     print_number(space.standing as u64, b":");
     print_number(space.tonnage as u64, b":");
     print_number(space.length.0 as u64, b":");
-    print_number(space.m as u64, b"");
+    print_number(space.m as u64, b":");
+    print_number(space.deck as u64, b"");
 }
 
 // Where a tank is measured: its parts and, of each section, the under-deck station inside whose section it is.

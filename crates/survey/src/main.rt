@@ -3,7 +3,6 @@
 // What it prints is tested, not proved.
 mod answers;
 
-use dayfile::Reading;
 use libc::STDIN_FILENO;
 use measure::units::Hundredths;
 use script::calls;
@@ -20,33 +19,47 @@ use sheet::Tank;
 // The calls, by the places of their forms (`script::calls::survey_line`); the last is `spaces`.
 const OPEN: usize = 0;
 
-const ENTER: usize = 1;
+const OPEN_WITH_VESSEL: usize = 1;
 
-const ENTER_WITH_ENDS: usize = 2;
+const ENTER: usize = 2;
 
-const ENTER_TANK: usize = 3;
+const ENTER_WITH_DECK: usize = 3;
 
-const WITHDRAW: usize = 4;
+const ENTER_WITH_ENDS: usize = 4;
 
-const MARK: usize = 5;
+const ENTER_WITH_ENDS_AND_DECK: usize = 5;
 
-const UNDO: usize = 6;
+const ENTER_TANK: usize = 6;
 
-const REDO: usize = 7;
+const ENTER_TANK_WITH_DECK: usize = 7;
 
-const COUNTS: usize = 8;
+const WITHDRAW: usize = 8;
 
-const REPORT: usize = 9;
+const MARK: usize = 9;
 
-const WRITE: usize = 10;
+const UNDO: usize = 10;
 
-const WRITE_FILLED: usize = 11;
+const REDO: usize = 11;
 
-const READ: usize = 12;
+const COUNTS: usize = 12;
 
-const READ_BEFORE: usize = 13;
+const REPORT: usize = 13;
 
-const ZONES: usize = 14;
+const WRITE: usize = 14;
+
+const WRITE_IN_FORM: usize = 15;
+
+const WRITE_FILLED: usize = 16;
+
+const WRITE_FILLED_IN_FORM: usize = 17;
+
+const READ: usize = 18;
+
+const READ_BEFORE: usize = 19;
+
+const MOVE: usize = 20;
+
+const ZONES: usize = 21;
 
 fn main() {
     let mut script = text::script_buffer();
@@ -85,143 +98,185 @@ fn answer_line(sheet: Sheet, line: &[u8]) -> Sheet {
 // Makes a call with the words of its line.
 fn make(sheet: Sheet, line: &[u8], call: usize) -> Sheet {
     match call {
-        ENTER | ENTER_WITH_ENDS => enter(sheet, line, false),
-        ENTER_TANK => enter(sheet, line, true),
-        OPEN | WITHDRAW | MARK | UNDO | REDO => answers::changed(change(sheet, line, call)),
+        OPEN | OPEN_WITH_VESSEL | WITHDRAW..=REDO => answers::changed(change(sheet, line, call)),
+        ENTER..=ENTER_TANK_WITH_DECK => enter(sheet, line, call),
         _ => ask(sheet, line, call),
     }
 }
 
-// Opens a sheet, makes a change other than an entry, takes one back or makes it again: these answer a number alone.
+// Opens a sheet, makes a change other than an entry, takes one back or makes it again: these answer a number alone. A vessel
+// number that is left out is 0.
 fn change(sheet: Sheet, line: &[u8], call: usize) -> Changed {
     match call {
-        OPEN => Sheet::open(Hundredths(words::measure_in(words::word(line, 1)))),
-        WITHDRAW => sheet.withdraw(words::id_in(words::word(line, 1))),
-        MARK => mark(sheet, line),
+        OPEN | OPEN_WITH_VESSEL => Sheet::open(
+            Hundredths(measure_at(line, 1)),
+            measure_at(line, 2),
+        ),
+        WITHDRAW => sheet.withdraw(id_at(line, 1)),
+        MARK => sheet.mark(id_at(line, 1), code_at(line, 2)),
         UNDO => sheet.undo(),
         _ => sheet.redo(),
     }
 }
 
-// Tells of the sheet, writes it or reads another.
+// Tells of the sheet, writes it, reads another or moves one.
 fn ask(sheet: Sheet, line: &[u8], call: usize) -> Sheet {
     match call {
         COUNTS => answers::counted(sheet.counts()),
-        REPORT => answers::reported(sheet.report(words::code_in(words::word(line, 1)))),
-        WRITE => write(sheet, line, 0),
-        WRITE_FILLED => write(sheet, line, words::code_in(words::word(line, 4))),
-        READ => read(line, 1, false),
-        READ_BEFORE => read(line, 2, true),
+        REPORT => answers::reported(sheet.report(code_at(line, 1))),
+        WRITE..=WRITE_FILLED_IN_FORM => store(sheet, line, call, b""),
+        READ | MOVE => take_file(sheet, line, call, 1),
+        READ_BEFORE => take_file(sheet, line, call, 2),
         ZONES => zones(sheet, line),
         _ => answers::spaces(sheet),
     }
 }
 
-// Writes into a buffer of the size that the line says, whose bytes are all `fill`.
-fn write(sheet: Sheet, line: &[u8], fill: u8) -> Sheet {
-    let justified = words::code_in(words::word(line, 1));
-    let at = words::value_in(words::word(line, 2)) as usize;
-    let size = words::size_in(words::word(line, 3));
-    let mut buffer = [fill; 65536];
-    write_into(sheet, justified, &mut buffer[..size], at)
+// Takes the file at a place of the line.
+fn take_file(sheet: Sheet, line: &[u8], call: usize, place: usize) -> Sheet {
+    let mut file = io::large_buffer();
+    let n = hex::bytes(words::word(line, place), &mut file);
+    use_file(sheet, line, call, &file[..n])
 }
 
-fn write_into(sheet: Sheet, justified: u8, buffer: &mut [u8], at: usize) -> Sheet {
-    let written = dayfile::write(sheet, justified, buffer, at);
+// Reads its last sheet, or the one before the start that the line says, or moves the last.
+fn use_file(sheet: Sheet, line: &[u8], call: usize, file: &[u8]) -> Sheet {
+    match call {
+        READ => answers::read(dayfile::read(file)),
+        READ_BEFORE => answers::read(dayfile::read_before(file, place_at(line, 1))),
+        _ => store(sheet, line, call, file),
+    }
+}
+
+// Writes the sheet, which takes no file, or moves the file's, into a buffer of the size that the line says, whose bytes are
+// all its filling.
+fn store(sheet: Sheet, line: &[u8], call: usize, file: &[u8]) -> Sheet {
+    let size = words::size_in(words::word(line, size_place(call)));
+    let fill = filling(line, call);
+    let mut buffer = [fill; 65536];
+    store_into(sheet, line, call, file, &mut buffer[..size])
+}
+
+// A move leaves the current sheet as it is.
+fn store_into(sheet: Sheet, line: &[u8], call: usize, file: &[u8], buffer: &mut [u8]) -> Sheet {
+    let form = form(line, call);
+    if call == MOVE {
+        let moved = dayfile::move_last(file, form, buffer, place_at(line, 3));
+        answers::moved(moved, buffer);
+        return sheet;
+    }
+    let written = dayfile::write(sheet, code_at(line, 1), form, buffer, place_at(line, 2));
     answers::written(written, buffer)
 }
 
-// Reads the file at a place of the line: its last sheet, or the one before the start that the line says.
-fn read(line: &[u8], place: usize, earlier: bool) -> Sheet {
-    let mut file = io::large_buffer();
-    let n = hex::bytes(words::word(line, place), &mut file);
-    answers::read(reading(line, &file[..n], earlier))
-}
-
-fn reading(line: &[u8], file: &[u8], earlier: bool) -> Reading {
-    if earlier {
-        return dayfile::read_before(file, words::value_in(words::word(line, 1)) as usize);
+// Where a line says the size of a buffer.
+fn size_place(call: usize) -> usize {
+    if call == MOVE {
+        return 4;
     }
-    dayfile::read(file)
+    3
 }
 
-fn mark(sheet: Sheet, line: &[u8]) -> Changed {
-    let id = words::id_in(words::word(line, 1));
-    let standing = words::code_in(words::word(line, 2));
-    sheet.mark(id, standing)
+// What all bytes of a buffer are before; 0 where a line doesn't say it.
+fn filling(line: &[u8], call: usize) -> u8 {
+    match call {
+        WRITE_FILLED | WRITE_FILLED_IN_FORM => code_at(line, 4),
+        MOVE => code_at(line, 5),
+        _ => 0,
+    }
+}
+
+// The form that a line asks for; one that is left out is 1.
+fn form(line: &[u8], call: usize) -> u8 {
+    match call {
+        WRITE_IN_FORM => code_at(line, 4),
+        WRITE_FILLED_IN_FORM => code_at(line, 5),
+        MOVE => code_at(line, 2),
+        _ => 1,
+    }
 }
 
 // Enters a space or a tank, with the two lists of the line.
-fn enter(sheet: Sheet, line: &[u8], is_tank: bool) -> Sheet {
+fn enter(sheet: Sheet, line: &[u8], call: usize) -> Sheet {
     let mut heights = [0u32; 1024];
     let h = words::measures(words::word(line, 6), &mut heights);
     let mut breadths = [0u32; 1024];
     let b = words::measures(words::word(line, 7), &mut breadths);
-    enter_from(sheet, line, is_tank, &heights[..h], &breadths[..b])
+    enter_from(sheet, line, call, &heights[..h], &breadths[..b])
 }
 
 // A tank passes no roundings on, and answers a number alone.
-fn enter_from(
-    sheet: Sheet,
-    line: &[u8],
-    is_tank: bool,
-    heights: &[u32],
-    breadths: &[u32],
-) -> Sheet {
-    if is_tank {
-        return answers::changed(sheet.enter_tank(tank(line), heights, breadths));
+fn enter_from(sheet: Sheet, line: &[u8], call: usize, heights: &[u32], breadths: &[u32]) -> Sheet {
+    match call {
+        ENTER_TANK | ENTER_TANK_WITH_DECK => {
+            answers::changed(sheet.enter_tank(tank(line), heights, breadths))
+        }
+        _ => {
+            let entry = entry(line, call);
+            let kind = entry.kind;
+            answers::entering(sheet.enter(entry, heights, breadths), kind, heights.len())
+        }
     }
-    let entry = entry(line);
-    let kind = entry.kind;
-    answers::entering(sheet.enter(entry, heights, breadths), kind, heights.len())
 }
 
-// Ends that are left out are 0.
-fn entry(line: &[u8]) -> Entry {
-    let id = words::id_in(words::word(line, 1));
-    let within = words::id_in(words::word(line, 2));
-    let kind = words::code_in(words::word(line, 3));
-    let standing = words::code_in(words::word(line, 4));
-    let length = words::measure_in(words::word(line, 5));
-    let fore_end = words::code_in(words::word(line, 8));
-    let aft_end = words::code_in(words::word(line, 9));
+// The words behind the breadths are the ends and the deck, or the deck alone; what is left out is 0.
+fn entry(line: &[u8], call: usize) -> Entry {
+    if call == ENTER_WITH_DECK {
+        return entry_with(line, 0, 0, code_at(line, 8));
+    }
+    entry_with(line, code_at(line, 8), code_at(line, 9), code_at(line, 10))
+}
+
+fn entry_with(line: &[u8], fore_end: u8, aft_end: u8, deck: u8) -> Entry {
     Entry {
-        id,
-        within,
-        kind,
-        standing,
+        id: id_at(line, 1),
+        within: id_at(line, 2),
+        kind: code_at(line, 3),
+        standing: code_at(line, 4),
         fore_end,
         aft_end,
-        length: Hundredths(length),
+        deck,
+        length: Hundredths(measure_at(line, 5)),
     }
 }
 
+// A deck that is left out is 0.
 fn tank(line: &[u8]) -> Tank {
-    let id = words::id_in(words::word(line, 1));
-    let within = words::id_in(words::word(line, 2));
-    let standing = words::code_in(words::word(line, 3));
-    let length = words::measure_in(words::word(line, 4));
-    let fore = words::measure_in(words::word(line, 5));
     Tank {
-        id,
-        within,
-        standing,
-        length: Hundredths(length),
-        fore: Hundredths(fore),
+        id: id_at(line, 1),
+        within: id_at(line, 2),
+        standing: code_at(line, 3),
+        deck: code_at(line, 8),
+        length: Hundredths(measure_at(line, 4)),
+        fore: Hundredths(measure_at(line, 5)),
     }
 }
 
 // Where a tank is measured, which needs no sheet.
 fn zones(sheet: Sheet, line: &[u8]) -> Sheet {
-    let tonnage_length = words::measure_in(words::word(line, 1));
-    let under_deck = words::measure_in(words::word(line, 2));
-    let length = words::measure_in(words::word(line, 3));
-    let fore = words::measure_in(words::word(line, 4));
     answers::zones(
-        Hundredths(tonnage_length),
-        Hundredths(under_deck),
-        Hundredths(length),
-        Hundredths(fore),
+        Hundredths(measure_at(line, 1)),
+        Hundredths(measure_at(line, 2)),
+        Hundredths(measure_at(line, 3)),
+        Hundredths(measure_at(line, 4)),
     );
     sheet
+}
+
+// The word at a place of a line, as an id, as a code, as a measure or vessel number, and as a place in a buffer or a file. One
+// that is left out is 0.
+fn id_at(line: &[u8], place: usize) -> u16 {
+    words::id_in(words::word(line, place))
+}
+
+fn code_at(line: &[u8], place: usize) -> u8 {
+    words::code_in(words::word(line, place))
+}
+
+fn measure_at(line: &[u8], place: usize) -> u32 {
+    words::measure_in(words::word(line, place))
+}
+
+fn place_at(line: &[u8], place: usize) -> usize {
+    words::value_in(words::word(line, place)) as usize
 }

@@ -28,9 +28,11 @@ use Rattle.sheet.proofs.laws.Calls.{passed, after-call}
 use Rattle.dayfile.specs.Fields.{fitting}
 use Rattle.dayfile.specs.Record.{recordFields, recordsIn, spaceOf, spacesOf}
 use Rattle.dayfile.specs.Trailer.{trailerSize, sheetSize, trailerRight}
-use Rattle.dayfile.specs.Reading.{lastNumbers, lastTrailer, startOf, lastRecords, noSheet, faulty, firstFaulty, faultIn, sheetIn, trailerTests, readNumber, refusedReading, acceptedReading, readOf, ReadingAccepted}
+use Rattle.dayfile.specs.Reading.{lastNumbers, lastTrailer, lastForm, startOf, lastRecords, lastVessel, noSheet, faulty, firstFaulty, faultIn, sheetIn, trailerTests, readNumber, refusedReading, acceptedReading, readOf, ReadingAccepted}
 use Rattle.dayfile.specs.Handed.{readAs, eachReadAs, judgedReading}
+use Rattle.dayfile.specs.declared.forms.Form.{Form}
 use Rattle.dayfile.specs.declared.trailer.Trailer.{Trailer}
+use Rattle.dayfile.specs.declared.reading.Reading.{Reading}
 use Rattle.dayfile.proofs.laws.Trailer.{distance-is, within-trailer, tonnage-length-fits}
 
 -- ---- 16
@@ -53,7 +55,7 @@ module _ (file : List ℕ) where
 pub record Framed (file : List ℕ) : Type 0 where
   pub long : trailerSize ≤ length file
   pub right : trailerRight (lastNumbers file) ≡ true
-  pub reaches : sheetSize (lastTrailer file .count) ≤ length file
+  pub reaches : sheetSize (lastForm file) (lastTrailer file .count) ≤ length file
 
 pub framed : (file : List ℕ) → noSheet file ≡ false → Framed file
 unfolding noSheet
@@ -78,19 +80,19 @@ unfolding recordNumber includes kindOf
 empty-refused L before = refl
 
 -- the sheet's own judging of the records as they are handed to it finds the first that is faulty
-pub record Judged (L : Hundredths) (before : List Space) (rest : List (List ℕ)) : Type 0 where
-  pub position-is : firstRefused L before (eachReadAs rest) .position ≡ firstFaulty L before rest
-  pub none-refused : firstFaulty L before rest ≡ 0 → firstRefused L before (eachReadAs rest) .number ≡ 0
-  pub none-faulty : firstRefused L before (eachReadAs rest) .number ≡ 0 → firstFaulty L before rest ≡ 0
-  pub all-read : firstFaulty L before rest ≡ 0 → eachReadAs rest ≡ spacesOf rest
+pub record Judged (f : Form) (L : Hundredths) (before : List Space) (rest : List (List ℕ)) : Type 0 where
+  pub position-is : firstRefused L before (eachReadAs f rest) .position ≡ firstFaulty f L before rest
+  pub none-refused : firstFaulty f L before rest ≡ 0 → firstRefused L before (eachReadAs f rest) .number ≡ 0
+  pub none-faulty : firstRefused L before (eachReadAs f rest) .number ≡ 0 → firstFaulty f L before rest ≡ 0
+  pub all-read : firstFaulty f L before rest ≡ 0 → eachReadAs f rest ≡ spacesOf rest
 
-module _ (L : Hundredths) (before : List Space) (numbers : List ℕ) (rest : List (List ℕ)) where
+module _ (f : Form) (L : Hundredths) (before : List Space) (numbers : List ℕ) (rest : List (List ℕ)) where
   -- a faulty record ends it
-  ends : (x : Space) → readAs numbers ≡ x → (recordNumber L before x ≡ 0 → ⊥) → faulty L before numbers ≡ true
-      → Judged L before (numbers ∷ rest)
+  ends : (x : Space) → readAs f numbers ≡ x → (recordNumber L before x ≡ 0 → ⊥) → faulty f L before numbers ≡ true
+      → Judged f L before (numbers ∷ rest)
   ends x same refused fault =
-      let here : firstFaulty L before (numbers ∷ rest) ≡ length before + 1 = rw fault in
-      let stop : firstRefused L before (eachReadAs (numbers ∷ rest)) ≡ record { number = recordNumber L before x; position = length before + 1 } =
+      let here : firstFaulty f L before (numbers ∷ rest) ≡ length before + 1 = rw fault in
+      let stop : firstRefused L before (eachReadAs f (numbers ∷ rest)) ≡ record { number = recordNumber L before x; position = length before + 1 } =
       rw (same, ne-eqb (recordNumber L before x) 0 refused) in
       record {
         position-is = ap (λ (r : RefusedRecord). r .position) stop ∙ sym here;
@@ -100,39 +102,39 @@ module _ (L : Hundredths) (before : List Space) (numbers : List ℕ) (rest : Lis
       }
 
   -- and one that isn't leaves it to the others
-  goes-on : readAs numbers ≡ spaceOf numbers → recordNumber L before (spaceOf numbers) ≡ 0 → faulty L before numbers ≡ false
-      → Judged L (before ++ (spaceOf numbers ∷ [])) rest → Judged L before (numbers ∷ rest)
+  goes-on : readAs f numbers ≡ spaceOf numbers → recordNumber L before (spaceOf numbers) ≡ 0 → faulty f L before numbers ≡ false
+      → Judged f L (before ++ (spaceOf numbers ∷ [])) rest → Judged f L before (numbers ∷ rest)
   goes-on same taken sound others =
-      let f : firstFaulty L before (numbers ∷ rest) ≡ firstFaulty L (before ++ (spaceOf numbers ∷ [])) rest = rw sound in
-      let r : firstRefused L before (eachReadAs (numbers ∷ rest)) ≡ firstRefused L (before ++ (spaceOf numbers ∷ [])) (eachReadAs rest) =
+      let same-fault : firstFaulty f L before (numbers ∷ rest) ≡ firstFaulty f L (before ++ (spaceOf numbers ∷ [])) rest = rw sound in
+      let r : firstRefused L before (eachReadAs f (numbers ∷ rest)) ≡ firstRefused L (before ++ (spaceOf numbers ∷ [])) (eachReadAs f rest) =
       rw (same, eq-eqb _ 0 taken) in
       record {
-        position-is = ap (λ (x : RefusedRecord). x .position) r ∙ others .position-is ∙ sym f;
-        none-refused = λ z. ap (λ (x : RefusedRecord). x .number) r ∙ others .none-refused (sym f ∙ z);
-        none-faulty = λ z. f ∙ others .none-faulty (sym (ap (λ (x : RefusedRecord). x .number) r) ∙ z);
-        all-read = λ z. rw (same, others .all-read (sym f ∙ z));
+        position-is = ap (λ (x : RefusedRecord). x .position) r ∙ others .position-is ∙ sym same-fault;
+        none-refused = λ z. ap (λ (x : RefusedRecord). x .number) r ∙ others .none-refused (sym same-fault ∙ z);
+        none-faulty = λ z. same-fault ∙ others .none-faulty (sym (ap (λ (x : RefusedRecord). x .number) r) ∙ z);
+        all-read = λ z. rw (same, others .all-read (sym same-fault ∙ z));
       }
 
-  out-of-range : fitting recordFields numbers ≡ false → Judged L before (numbers ∷ rest)
+  out-of-range : fitting (recordFields f) numbers ≡ false → Judged f L before (numbers ∷ rest)
   unfolding readAs
   out-of-range e =
       ends emptySpace (rw e) (λ z. let never : ⊥ = omega (arith, empty-refused L before, z) in absurd never) (rw e)
 
-  in-range : fitting recordFields numbers ≡ true → ((before : List Space) → Judged L before rest) → Judged L before (numbers ∷ rest)
+  in-range : fitting (recordFields f) numbers ≡ true → ((before : List Space) → Judged f L before rest) → Judged f L before (numbers ∷ rest)
   unfolding readAs
   in-range e others = by (eqb (recordNumber L before (spaceOf numbers)) 0) refl
     where
-      by : (t : Bool) → eqb (recordNumber L before (spaceOf numbers)) 0 ≡ t → Judged L before (numbers ∷ rest)
+      by : (t : Bool) → eqb (recordNumber L before (spaceOf numbers)) 0 ≡ t → Judged f L before (numbers ∷ rest)
       by true q = goes-on (rw e) (eqb-true _ 0 q) (rw (e, q)) (others (before ++ (spaceOf numbers ∷ [])))
       by false q = ends (spaceOf numbers) (rw e) (eqb-false _ 0 q) (rw (e, q))
 
-pub judged : (L : Hundredths) (before : List Space) (rest : List (List ℕ)) → Judged L before rest
-judged L before [] = record { position-is = refl; none-refused = λ z. refl; none-faulty = λ z. refl; all-read = λ z. refl }
-judged L before (numbers ∷ rest) = by (λ first. judged L first rest) (fitting recordFields numbers) refl
+pub judged : (f : Form) (L : Hundredths) (before : List Space) (rest : List (List ℕ)) → Judged f L before rest
+judged f L before [] = record { position-is = refl; none-refused = λ z. refl; none-faulty = λ z. refl; all-read = λ z. refl }
+judged f L before (numbers ∷ rest) = by (λ first. judged f L first rest) (fitting (recordFields f) numbers) refl
   where
-    by : ((first : List Space) → Judged L first rest) → (t : Bool) → fitting recordFields numbers ≡ t → Judged L before (numbers ∷ rest)
-    by others false e = out-of-range L before numbers rest e
-    by others true e = in-range L before numbers rest e others
+    by : ((first : List Space) → Judged f L first rest) → (t : Bool) → fitting (recordFields f) numbers ≡ t → Judged f L before (numbers ∷ rest)
+    by others false e = out-of-range f L before numbers rest e
+    by others true e = in-range f L before numbers rest e others
 
 -- a space of a record's numbers has no m to lose
 pub no-m : (all : List (List ℕ)) → allRecorded (spacesOf all) ≡ spacesOf all
@@ -140,23 +142,23 @@ no-m [] = refl
 no-m (numbers ∷ rest) = ap (λ (xs : List Space). spaceOf numbers ∷ xs) (no-m rest)
 
 -- what the sheet's own `resumed` answers of a file's records
-pub record Resumes (L : Hundredths) (all : List (List ℕ)) : Type 0 where
-  pub position-is : resumed L (eachReadAs all) .position ≡ firstFaulty L [] all
-  pub sheet-is : firstFaulty L [] all ≡ 0 → resumed L (eachReadAs all) .sheet ≡ withStanding (spacesOf all) (blank true L)
+pub record Resumes (f : Form) (L : Hundredths) (vessel : ℕ) (all : List (List ℕ)) : Type 0 where
+  pub position-is : resumed L vessel (eachReadAs f all) .position ≡ firstFaulty f L [] all
+  pub sheet-is : firstFaulty f L [] all ≡ 0 → resumed L vessel (eachReadAs f all) .sheet ≡ withStanding (spacesOf all) (blank true L vessel)
 
-pub resumes : (L : Hundredths) (all : List (List ℕ)) → includes tonnageLengths L.0 ≡ true → Resumes L all
+pub resumes : (f : Form) (L : Hundredths) (vessel : ℕ) (all : List (List ℕ)) → includes tonnageLengths L.0 ≡ true → Resumes f L vessel all
 unfolding resumed
-resumes L all fits = by (eqb (firstRefused L [] (eachReadAs all) .number) 0) refl
+resumes f L vessel all fits = by (eqb (firstRefused L [] (eachReadAs f all) .number) 0) refl
   where
-    j : Judged L [] all
-    j = judged L [] all
+    j : Judged f L [] all
+    j = judged f L [] all
 
-    by : (t : Bool) → eqb (firstRefused L [] (eachReadAs all) .number) 0 ≡ t → Resumes L all
+    by : (t : Bool) → eqb (firstRefused L [] (eachReadAs f all) .number) 0 ≡ t → Resumes f L vessel all
     by true e =
         let z = j .none-faulty (eqb-true _ 0 e) in
         record { position-is = rw (fits, e) (sym z); sheet-is = λ none. rw (fits, e, j .all-read none, no-m all) }
     by false e =
-        let faulty' : firstFaulty L [] all ≡ 0 → ⊥ = λ none. eqb-false _ 0 e (j .none-refused none) in
+        let faulty' : firstFaulty f L [] all ≡ 0 → ⊥ = λ none. eqb-false _ 0 e (j .none-refused none) in
         record { position-is = rw (fits, e) (j .position-is); sheet-is = λ none. absurd (faulty' none) }
 
 -- of the last sheet of a file, as the code has its trailer, its start and its row
@@ -164,18 +166,19 @@ module _ (file : List ℕ) (off : noSheet file ≡ false) where
   pub count-fits : lastTrailer file .count ≤ 200
   count-fits = within-trailer (lastNumbers file) 1 (lit< tt) (framed file off .right)
 
-  pub resumed-last : (t : Trailer) (start : ℕ) (row : List Space) (r : Resumed) → t ≡ lastTrailer file → start ≡ startOf file
-      → take (t .count) row ≡ eachReadAs (recordsIn (t .count) (drop start file))
-      → r ≡ resumed (t .«tonnage_length») (take (t .count) row)
+  pub resumed-last : (t : Trailer) (f : Form) (start vessel : ℕ) (row : List Space) (r : Resumed) → t ≡ lastTrailer file → f ≡ lastForm file
+      → start ≡ startOf file → vessel ≡ lastVessel file
+      → take (t .count) row ≡ eachReadAs f (recordsIn f (t .count) (drop start file))
+      → r ≡ resumed (t .«tonnage_length») vessel (take (t .count) row)
       → (r .position ≡ faultIn file) × (faultIn file ≡ 0 → r .sheet ≡ sheetIn file)
   unfolding faultIn sheetIn
-  resumed-last t start row r e₁ e₂ read e₃ =
+  resumed-last t f start vessel row r e₁ e₂ e₃ e₄ read e₅ =
       let L = lastTrailer file .«tonnage_length» in
-      let all : take (t .count) row ≡ eachReadAs (lastRecords file) =
-      read ∙ rw (e₁, e₂) in
-      let same : r ≡ resumed L (eachReadAs (lastRecords file)) = e₃ ∙ rw (all, e₁) in
+      let all : take (t .count) row ≡ eachReadAs (lastForm file) (lastRecords file) =
+      read ∙ rw (e₁, e₂, e₃) in
+      let same : r ≡ resumed L (lastVessel file) (eachReadAs (lastForm file) (lastRecords file)) = e₅ ∙ rw (all, e₁, e₄) in
       let fits = tonnage-length-fits (drop (length file - trailerSize) file) (framed file off .right) in
-      let q = resumes L (lastRecords file) fits in
+      let q = resumes (lastForm file) L (lastVessel file) (lastRecords file) fits in
       (ap (λ (x : Resumed). x .position) same ∙ q .position-is, λ none. ap (λ (x : Resumed). x .sheet) same ∙ q .sheet-is none)
 
 -- ---- the numbers in their order
@@ -199,7 +202,7 @@ module _ (file : List ℕ) where
       let n = firstOf (trailerTests (sheetIn file) (lastTrailer file)) in
       rw (e, h)
       (ap
-      (λ (p : ℕ). cond (eqb n 0) (acceptedReading (sheetIn file) (lastTrailer file .justified) (startOf file)) (refusedReading n p))
+      (λ (p : ℕ). cond (eqb n 0) (acceptedReading (sheetIn file) (lastTrailer file .justified) (startOf file) (lastTrailer file .form)) (refusedReading n p))
       (none-either (eqb n 17)))
 
   pub read-judged : (s : Sheet) (t : Trailer) (start : ℕ) → s ≡ sheetIn file → t ≡ lastTrailer file → start ≡ startOf file
@@ -223,14 +226,14 @@ module _ (s : Sheet) (t : Trailer) (start : ℕ) where
   other-net e g h = rw (e, eq-eqb (gross (standing s)) (t .gross) g, ne-eqb (net (standing s)) (t .net) h)
 
   pub same-figures : reported s (t .justified) .number ≡ 0 → gross (standing s) ≡ t .gross → net (standing s) ≡ t .net
-      → acceptedReading s (t .justified) start ≡ judgedReading s t start
+      → acceptedReading s (t .justified) start (t .form) ≡ judgedReading s t start
   unfolding judgedReading
   same-figures e g n = rw (e, eq-eqb (gross (standing s)) (t .gross) g, eq-eqb (net (standing s)) (t .net) n)
 
 -- ---- a file whose reading is accepted
 
 none-applies : (file : List ℕ) → readNumber file ≡ 0
-    → readOf file ≡ acceptedReading (sheetIn file) (lastTrailer file .justified) (startOf file) → ReadingAccepted file
+    → readOf file ≡ acceptedReading (sheetIn file) (lastTrailer file .justified) (startOf file) (lastTrailer file .form) → ReadingAccepted file
 unfolding readNumber
 none-applies file e same =
     let s = sheetIn file in
@@ -255,3 +258,17 @@ reading-accepted file e =
     by-test (eqb (readNumber file) 0)
     (λ t. none-applies file (eqb-true _ 0 t) (rw t))
     (λ f. let z : readNumber file ≡ 0 = rw f at e in absurd (eqb-false _ 0 f z))
+
+-- the sheet that was read can be reported with its mark
+pub read-reports : (file : List ℕ) (r : Reading) → r ≡ readOf file → r .number ≡ 0 → reported (r .sheet) (r .justified) .number ≡ 0
+read-reports file r is e =
+    let a = reading-accepted file (rw is at e) in
+    rw (is, a .reading-is) (a .reports)
+
+-- the position is 0 with every number but 17
+pub position-with-17 : (file : List ℕ) → cond (eqb (readOf file .number) 17) (readOf file .position) 0 ≡ readOf file .position
+unfolding readOf refusedReading
+position-with-17 file =
+    by-test (eqb (readNumber file) 0)
+    (λ t. rw t)
+    (λ f. rw f (by-test (eqb (readNumber file) 17) (λ t. rw t) (λ g. rw g)))

@@ -35,6 +35,17 @@ stored-in-part l vs at h =
     rw (lent-part l at, e, append-nil)
     (in-part vs l at 0 h ∙ ap (λ (k : ℕ). sets l k vs) (add-zero at))
 
+-- a run behind another one, in the part that is lent from where that ends
+pub stored-in-last-part : (l b m v w : List ℕ) (from end : ℕ) → end ≡ from + length v → end ≤ length l → b ≡ sets l from v
+    → m ≡ sets (take (length b - end) (drop end b)) 0 w → take end b ++ (m ++ drop (length b - end) (drop end b)) ≡ sets l from (v ++ w)
+stored-in-last-part l b m v w from end e h b-is m-is =
+    let n : length b ≡ length l = ap length b-is ∙ length-sets l from v in
+    ap (λ (part : List ℕ). take end b ++ (part ++ drop (length b - end) (drop end b))) m-is
+    ∙ stored-in-part b w end (omega (arith, n, h))
+    ∙ ap (λ (x : List ℕ). sets x end w) b-is
+    ∙ ap (λ (k : ℕ). sets (sets l from v) k w) e
+    ∙ sym (stored-behind l v w from)
+
 -- two parts lent one after the other, the second where the first run ends
 pub stored-in-two-parts : (l b m₁ m₂ w₁ w₂ : List ℕ) (at end : ℕ) → at ≤ length l → end ≡ at + length w₁ → end ≤ length l
     → b ≡ take at l ++ (m₁ ++ drop (length l - at) (drop at l))
@@ -42,12 +53,6 @@ pub stored-in-two-parts : (l b m₁ m₂ w₁ w₂ : List ℕ) (at end : ℕ) �
     → m₂ ≡ sets (take (length b - end) (drop end b)) 0 w₂
     → take end b ++ (m₂ ++ drop (length b - end) (drop end b)) ≡ sets l at (w₁ ++ w₂)
 stored-in-two-parts l b m₁ m₂ w₁ w₂ at end h e g q p₁ p₂ =
-    let b₁ : b ≡ sets l at w₁ =
-    q ∙ ap (λ (m : List ℕ). take at l ++ (m ++ drop (length l - at) (drop at l))) p₁ ∙ stored-in-part l w₁ at h in
-    let n : length b ≡ length l = ap length b₁ ∙ length-sets l at w₁ in
-    let k : end ≤ length b = omega arith in
-    ap (λ (m : List ℕ). take end b ++ (m ++ drop (length b - end) (drop end b))) p₂
-    ∙ stored-in-part b w₂ end k
-    ∙ ap (λ (x : List ℕ). sets x end w₂) b₁
-    ∙ ap (λ (x : ℕ). sets (sets l at w₁) x w₂) e
-    ∙ sym (stored-behind l w₁ w₂ at)
+    stored-in-last-part l b m₂ w₁ w₂ at end e g
+    (q ∙ ap (λ (m : List ℕ). take at l ++ (m ++ drop (length l - at) (drop at l))) p₁ ∙ stored-in-part l w₁ at h)
+    p₂

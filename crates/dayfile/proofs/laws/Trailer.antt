@@ -1,7 +1,7 @@
 -- The trailer's numbers in range.
 use Prim.Native.Nat.{ℕ, _<_, _≤_}
 use mathlib.Core.Path.{_≡_}
-use mathlib.Core.Bool.{true}
+use mathlib.Core.Bool.{true, _&&_}
 use mathlib.Core.List.{List}
 use borrow.Author.Tests.{eqb-true, le-leb}
 use lib.Dec.{lit<}
@@ -9,7 +9,8 @@ use lib.ListN.{getD}
 use Rattle.measure.specs.Ranges.{includes, tonnageLengths}
 use Rattle.measure.proofs.laws.Tests.{and-left, and-right}
 use Rattle.dayfile.specs.Fields.{each, fitting}
-use Rattle.dayfile.specs.Trailer.{trailerFields, trailerNumbers, trailerRight, trailerOf, sheetSize}
+use Rattle.dayfile.specs.Forms.{isForm, formOf}
+use Rattle.dayfile.specs.Trailer.{formIn, trailerFields, trailerNumbers, trailerRight, trailerOf, sheetSize}
 use Rattle.dayfile.proofs.laws.Fields.{at-most, at-least}
 
 abbrev leasts : List ℕ
@@ -23,13 +24,20 @@ pub within-fields : (numbers : List ℕ) (i : ℕ) → i < 7 → fitting trailer
 within-fields numbers i h e = at-most leasts greatests numbers i h h e
 
 module _ (numbers : List ℕ) (right : trailerRight numbers ≡ true) where
-  pub fields-fit : fitting trailerFields numbers ≡ true
+  told-right : (fitting trailerFields numbers && isForm (formIn numbers)) ≡ true
   unfolding trailerRight
-  fields-fit = and-left (fitting trailerFields numbers) _ right
+  told-right = and-left (fitting trailerFields numbers && isForm (formIn numbers)) _ right
 
-  pub distance-is : getD numbers 0 0 ≡ sheetSize (getD numbers 1 0)
+  pub fields-fit : fitting trailerFields numbers ≡ true
+  fields-fit = and-left (fitting trailerFields numbers) _ told-right
+
+  -- its byte tells a form
+  pub tells-form : isForm (formIn numbers) ≡ true
+  tells-form = and-right (fitting trailerFields numbers) _ told-right
+
+  pub distance-is : getD numbers 0 0 ≡ sheetSize (formOf (formIn numbers)) (getD numbers 1 0)
   unfolding trailerRight
-  distance-is = eqb-true _ _ (and-right (fitting trailerFields numbers) _ right)
+  distance-is = eqb-true _ _ (and-right (fitting trailerFields numbers && isForm (formIn numbers)) _ right)
 
 -- the tonnage length of a right trailer at the front of some bytes is one that a sheet may have
 pub tonnage-length-fits : (bytes : List ℕ) → trailerRight (trailerNumbers bytes) ≡ true

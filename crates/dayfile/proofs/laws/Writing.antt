@@ -1,95 +1,161 @@
 -- What writing answers, and what it leaves in the buffer.
 use Prim.Native.Nat.{ℕ, _+_, _*_, _-_, _<_, _≤_}
 use mathlib.Core.Path.{_≡_, refl, sym, ap, _∙_}
-use mathlib.Core.List.{List, _++_}
+use mathlib.Core.Bool.{Bool, true, false, cond, not, _||_}
+use mathlib.Core.List.{List, _∷_, _++_}
+use native.Mathlib.Numerals.{add-one}
 use native.Mathlib.Omega.{arith}
-use borrow.Author.Tests.{lt-ltb, le-ltb, ne-eqb}
-use lib.ListN.{length, take, drop, length-append}
-use lib.Seq.{sets, sets-eq, length-take-le}
+use borrow.Author.Tests.{ne-eqb}
+use lib.Dec.{eqb}
+use lib.ListN.{length, take, drop, getD, length-append}
+use lib.Seq.{sets, sets-eq, drop-cons, length-take-le}
 use Rattle.measure.specs.declared.units.Hundredths.{Hundredths}
 use Rattle.standard.specs.Gross.{gross, net}
+use Rattle.spaces.specs.Space.{emptySpace}
 use Rattle.spaces.specs.declared.space.Space.{Space}
 use Rattle.sheet.specs.Sheet.{standing}
 use Rattle.sheet.specs.Calls.{reported}
+use Rattle.sheet.proofs.laws.Report.{only-closed-with-1}
+use Rattle.measure.specs.Refusals.{firstOf}
+use Rattle.spaces.proofs.laws.Cases.{by-test}
 use Rattle.sheet.specs.declared.sheet.Sheet.{Sheet}
 use Rattle.dayfile.specs.Fields.{widths}
+use Rattle.dayfile.specs.Forms.{isForm, formOf, lost}
 use Rattle.dayfile.specs.Record.{recordSize, records}
-use Rattle.dayfile.specs.Trailer.{trailerFields, trailerSize, trailerBytes, numbersOfTrailer, sheetSize}
-use Rattle.dayfile.specs.Writing.{trailerFor, sheetBytes, writeNumber, written, writtenInto}
+use Rattle.dayfile.specs.Trailer.{trailerFields, trailerSize, endSize, vesselBytes, trailerBytes, numbersOfTrailer, sheetSize}
+use Rattle.dayfile.specs.Writing.{trailerFor, sheetBytes, losesDeck, losesNumber, tooLittleRoom, lostOrNoRoom, writeNumber, written, writtenInto}
+use Rattle.dayfile.specs.Handed.{formRefusal, stored, storedInto, handedBack}
+use Rattle.dayfile.specs.declared.forms.Form.{Form}
 use Rattle.dayfile.specs.declared.trailer.Trailer.{Trailer}
+use Rattle.dayfile.specs.declared.writing.Stored.{Stored}
 use Rattle.dayfile.specs.declared.writing.Written.{Written}
 use Rattle.dayfile.proofs.laws.Stores.{stored-in-two-parts}
+use Rattle.dayfile.proofs.laws.Numbers.{length-bytes}
 use Rattle.dayfile.proofs.laws.Fields.{length-encoded}
 use Rattle.dayfile.proofs.laws.Record.{length-records}
+
+-- the deck of one space more is looked at
+pub deck-looked-at : (f : Form) (xs : List Space) (i : ℕ) → i < length xs
+    → losesDeck f (drop i xs) ≡ (lost (f .deck) (getD xs i emptySpace .deck) || losesDeck f (drop (i + 1) xs))
+deck-looked-at f xs i h = rw (add-one, drop-cons xs i emptySpace h)
+
+-- what is refused neither by its report nor by its form
+pub none-refused : (report form : ℕ) → formRefusal report form ≡ 0 → (report ≡ 0) × (isForm form ≡ true)
+none-refused report form e =
+    by-test (eqb report 1)
+    (λ one. let never : _≡_ {A = ℕ} 1 0 = rw one at e in absurd (omega arith))
+    (λ other.
+    by-test (isForm form)
+    (λ t. (rw (other, t) at e, t))
+    (λ f. let never : _≡_ {A = ℕ} 2 0 = rw (other, f) at e in absurd (omega arith)))
 
 pub length-trailer : (t : Trailer) → length (trailerBytes t) ≡ trailerSize
 length-trailer t = length-encoded (widths trailerFields) (numbersOfTrailer t) refl
 
-module _ (s : Sheet) (justified : ℕ) where
-  pub length-sheet : s .count ≤ length (s .spaces) → length (sheetBytes s justified) ≡ sheetSize (s .count)
+pub length-vessel : (f : Form) (vessel : ℕ) → length (vesselBytes f vessel) ≡ f .vessel
+length-vessel f vessel = length-bytes (f .vessel) vessel
+
+-- what stands behind the records
+pub length-end : (vessel : ℕ) (t : Trailer) → length (vesselBytes (formOf (t .form)) vessel ++ trailerBytes t) ≡ endSize (formOf (t .form))
+length-end vessel t =
+    let f = formOf (t .form) in
+    length-append (vesselBytes f vessel) (trailerBytes t) ∙ omega (arith, length-vessel f vessel, length-trailer t)
+
+module _ (s : Sheet) (justified form : ℕ) where
+  pub length-sheet : s .count ≤ length (s .spaces) → length (sheetBytes s justified form) ≡ sheetSize (formOf form) (s .count)
   unfolding sheetBytes
   length-sheet h =
-      length-append (records (standing s)) (trailerBytes (trailerFor s justified))
-      ∙ omega (arith, length-records (standing s), length-take-le (s .count) (s .spaces) h, length-trailer (trailerFor s justified))
+      let f = formOf form in
+      let end = vesselBytes f (s .vessel) ++ trailerBytes (trailerFor s justified form) in
+      let many : recordSize f * length (standing s) ≡ recordSize f * s .count =
+      ap (λ (n : ℕ). recordSize f * n) (length-take-le (s .count) (s .spaces) h) in
+      length-append (records f (standing s)) end
+      ∙ omega (arith, length-records f (standing s), many, length-end (s .vessel) (trailerFor s justified form))
 
   pub trailer-is : (n g m : ℕ) (l : Hundredths) → n ≡ s .count → l ≡ s .length → g ≡ gross (standing s) → m ≡ net (standing s)
-      → record { count = n; justified = justified; «tonnage_length» = l; gross = g; net = m } ≡ trailerFor s justified
+      → record { count = n; justified = justified; form = form; «tonnage_length» = l; gross = g; net = m } ≡ trailerFor s justified form
   trailer-is n g m l e₁ e₂ e₃ e₄ = rw (e₁, e₂, e₃, e₄)
 
-  -- the records of its places and its trailer
-  pub bytes-are : (n : ℕ) (row : List Space) (t : Trailer) → n ≡ s .count → row ≡ s .spaces → t ≡ trailerFor s justified
-      → records (take n row) ++ trailerBytes t ≡ sheetBytes s justified
-  unfolding sheetBytes
-  bytes-are n row t e₁ e₂ e₃ = rw (e₁, e₂, e₃)
+-- ---- 1, 2, 13 and 14
 
-module _ (s : Sheet) (justified at : ℕ) (buffer : List ℕ) where
+module _ (s : Sheet) (justified form at : ℕ) (buffer : List ℕ) where
   -- the answer and the buffer after it
   abbrev pub Answered : Written → List ℕ → Type 0
-  Answered r after = (r ≡ written s justified (length buffer) at) × (after ≡ writtenInto s justified at buffer)
+  Answered r after = (r ≡ written s justified form (length buffer) at) × (after ≡ writtenInto s justified form at buffer)
 
-  pub refused-with : (n : ℕ) → writeNumber s justified (length buffer) at ≡ n → (n ≡ 0 → ⊥)
-      → Answered (record { number = n; bytes = 0; sheet = s }) buffer
+  abbrev number : ℕ
+  number = writeNumber s justified form (length buffer) at
+
+  abbrev last-numbers : List (Bool × ℕ)
+  last-numbers = lostOrNoRoom form s (length buffer) at
+
+  by-form : (report : ℕ)
+      → firstOf ((eqb report 1, 1) ∷ (not (isForm form), 2) ∷ (not (eqb report 0), report) ∷ last-numbers)
+      ≡ cond (eqb (formRefusal report form) 0) (firstOf last-numbers) (formRefusal report form)
+  by-form report =
+      by-test (eqb report 1)
+      (λ one. rw one)
+      (λ other. by-test (isForm form) (λ t. rw (other, t) (by-test (eqb report 0) (λ z. rw z) (λ n. rw n))) (λ f. rw (other, f)))
+
+  number-is : number ≡ cond (eqb (formRefusal (reported s justified .number) form) 0) (firstOf last-numbers) (formRefusal (reported s justified .number) form)
+  unfolding writeNumber
+  number-is =
+      let report = reported s justified .number in
+      ap (λ (b : Bool). firstOf ((b, 1) ∷ (not (isForm form), 2) ∷ (not (eqb report 0), report) ∷ last-numbers)) (sym (only-closed-with-1 s justified))
+      ∙ by-form report
+
+  pub refused-with : (n : ℕ) → n ≡ formRefusal (reported s justified .number) form → (n ≡ 0 → ⊥) → Answered (record { number = n; bytes = 0; sheet = s }) buffer
   unfolding written writtenInto
-  refused-with n e h = (rw (e, ne-eqb n 0 h), rw (e, ne-eqb n 0 h))
+  refused-with n e h =
+      let is : number ≡ n = number-is ∙ rw (← e, ne-eqb n 0 h) in
+      (rw (is, ne-eqb n 0 h), rw (is, ne-eqb n 0 h))
 
-  pub as-report : (n : ℕ) → reported s justified .number ≡ n → (n ≡ 0 → ⊥) → writeNumber s justified (length buffer) at ≡ n
-  unfolding writeNumber
-  as-report n e h = rw (e, ne-eqb n 0 h)
+  -- a report that is given leaves 20 and 15
+  pub reported-number : reported s justified .number ≡ 0 → isForm form ≡ true → number ≡ firstOf last-numbers
+  reported-number z known = number-is ∙ rw (z, known)
 
-  pub no-room : reported s justified .number ≡ 0 → length buffer - at < sheetSize (s .count) → writeNumber s justified (length buffer) at ≡ 15
-  unfolding writeNumber
-  no-room e h = rw (e, lt-ltb _ _ h)
+  -- what is stored of the sheet is what is written of it
+  pub stored-is-written : (t : Trailer) (vessel : ℕ) (row : List Space) (r : Stored) (after : List ℕ) → reported s justified .number ≡ 0 → isForm form ≡ true
+      → t ≡ trailerFor s justified form → vessel ≡ s .vessel → row ≡ s .spaces
+      → r ≡ stored t vessel (take (t .count) row) (length buffer) at → after ≡ storedInto t vessel (take (t .count) row) at buffer
+      → Answered (handedBack r s) after
+  unfolding written writtenInto sheetBytes losesNumber
+  stored-is-written t vessel row r after z known e₁ e₂ e₃ e₄ e₅ =
+      let n = reported-number z known in
+      (rw (e₄, e₁, e₂, e₃, n), rw (e₅, e₁, e₂, e₃, n))
 
-  pub room : reported s justified .number ≡ 0 → sheetSize (s .count) ≤ length buffer - at → writeNumber s justified (length buffer) at ≡ 0
-  unfolding writeNumber
-  room e h = rw (e, le-ltb _ _ h)
+-- ---- 20, 15 and the bytes
 
-  accepted : (size : ℕ) → size ≡ sheetSize (s .count) → writeNumber s justified (length buffer) at ≡ 0
-      → at + length (sheetBytes s justified) ≤ length buffer
-      → Answered (record { number = 0; bytes = size; sheet = s }) (sets buffer at (sheetBytes s justified))
-  unfolding written writtenInto
-  accepted size e₁ e₂ h = (rw (e₁, e₂), rw e₂ (sets-eq (sheetBytes s justified) buffer at h))
+module _ (t : Trailer) (vessel : ℕ) (xs : List Space) (at : ℕ) (buffer : List ℕ) where
+  abbrev pub AnsweredStore : Stored → List ℕ → Type 0
+  AnsweredStore r after = (r ≡ stored t vessel xs (length buffer) at) × (after ≡ storedInto t vessel xs at buffer)
 
-  -- as the code makes it: n records of the row stored in the part from the named place on, and the others in the part behind them
-  pub stored-whole : (n size : ℕ) (row : List Space) (others b m₁ m₂ : List ℕ) → reported s justified .number ≡ 0
-      → s .count ≤ length (s .spaces) → n ≡ s .count → row ≡ s .spaces → records (take n row) ++ others ≡ sheetBytes s justified
-      → size ≡ sheetSize n → at ≤ length buffer → size ≤ length buffer - at
+  pub loses : (lost (formOf (t .form) .vessel) vessel || losesDeck (formOf (t .form)) xs) ≡ true → AnsweredStore (record { number = 20; bytes = 0 }) buffer
+  loses l = (rw l, rw l)
+
+  pub no-room : (lost (formOf (t .form) .vessel) vessel || losesDeck (formOf (t .form)) xs) ≡ false
+      → tooLittleRoom (formOf (t .form)) (t .count) (length buffer) at ≡ true → AnsweredStore (record { number = 15; bytes = 0 }) buffer
+  no-room l r = (rw (l, r), rw (l, r))
+
+  -- as the code makes it: the records stored in the part from the named place on, and what stands behind them in the part behind
+  pub stored-whole : (size end : ℕ) (b m₁ m₂ : List ℕ)
+      → (lost (formOf (t .form) .vessel) vessel || losesDeck (formOf (t .form)) xs) ≡ false
+      → tooLittleRoom (formOf (t .form)) (t .count) (length buffer) at ≡ false → length xs ≡ t .count
+      → size ≡ sheetSize (formOf (t .form)) (t .count) → end ≡ at + recordSize (formOf (t .form)) * t .count → at ≤ length buffer → size ≤ length buffer - at
       → b ≡ take at buffer ++ (m₁ ++ drop (length buffer - at) (drop at buffer))
-      → m₁ ≡ sets (take (length buffer - at) (drop at buffer)) 0 (records (take n row))
-      → m₂ ≡ sets (take (length b - (at + recordSize * n)) (drop (at + recordSize * n) b)) 0 others
-      → Answered (record { number = 0; bytes = size; sheet = s })
-      (take (at + recordSize * n) b ++ (m₂ ++ drop (length b - (at + recordSize * n)) (drop (at + recordSize * n) b)))
-  stored-whole n size row others b m₁ m₂ reports places count rows bytes sizes from-place enough whole first second =
-      let size-is : size ≡ sheetSize (s .count) = sizes ∙ ap sheetSize count in
-      let few : n ≤ length row = rw (count, rows) places in
-      let recorded : length (records (take n row)) ≡ recordSize * n =
-      length-records (take n row) ∙ ap (λ (k : ℕ). recordSize * k) (length-take-le n row few) in
-      let stored =
-      stored-in-two-parts buffer b m₁ m₂ (records (take n row)) others at (at + recordSize * n) from-place
-      (ap (λ (k : ℕ). at + k) (sym recorded))
-      (omega arith)
+      → m₁ ≡ sets (take (length buffer - at) (drop at buffer)) 0 (records (formOf (t .form)) xs)
+      → m₂ ≡ sets (take (length b - end) (drop end b)) 0 (vesselBytes (formOf (t .form)) vessel ++ trailerBytes t)
+      → AnsweredStore (record { number = 0; bytes = size }) (take end b ++ (m₂ ++ drop (length b - end) (drop end b)))
+  stored-whole size end b m₁ m₂ l r many size-is end-is from-place enough whole first second =
+      let f = formOf (t .form) in
+      let behind = vesselBytes f vessel ++ trailerBytes t in
+      let recorded : length (records f xs) ≡ recordSize f * t .count = length-records f xs ∙ ap (λ (n : ℕ). recordSize f * n) many in
+      let all : length (records f xs ++ behind) ≡ size = length-append (records f xs) behind ∙ omega (arith, recorded, length-end vessel t, size-is) in
+      let runs =
+      stored-in-two-parts buffer b m₁ m₂ (records f xs) behind at end from-place
+      (end-is ∙ ap (λ (n : ℕ). at + n) (sym recorded))
+      (omega (arith, end-is, size-is, enough, from-place))
       whole
       first
       second in
-      let w = accepted size size-is (room reports (omega arith)) (omega (arith, length-sheet s justified places)) in
-      (w .0, stored ∙ ap (sets buffer at) bytes ∙ w .1)
+      (rw (l, r, size-is), rw (l, r) (runs ∙ sets-eq (records f xs ++ behind) buffer at (omega (arith, all, enough, from-place))))

@@ -13,7 +13,6 @@ use Rattle.sheet.specs.declared.sheet.Sheet.{Sheet}
 use Rattle.sheet.proofs.laws.Report.{given, handed-out}
 use Rattle.dayfile.specs.Reading.{readOf}
 use Rattle.dayfile.specs.declared.reading.Reading.{Reading}
-use Rattle.dayfile.proofs.laws.Reading.{reading-accepted}
 use Rattle.listing.specs.Lines.{figureLine, spaceLines, refusalLine}
 use Rattle.listing.specs.Listing.{mostBytes, textSize, sheetText, fileText, listed}
 use Rattle.listing.specs.declared.listing.Listing.{Listing}
@@ -45,12 +44,6 @@ module _ (file : List ℕ) (r : Reading) (is : r ≡ readOf file) where
   pub read-text : length file ≤ mostBytes → r .number ≡ 0 → fileText file ≡ sheetText (r .sheet)
   unfolding fileText
   read-text h e = rw (le-ltb mostBytes (length file) h, ← is, eq-eqb (r .number) 0 e)
-
-  -- a sheet that was read can be reported with its mark
-  pub read-reports : r .number ≡ 0 → reported (r .sheet) (r .justified) .number ≡ 0
-  read-reports e =
-      let a = reading-accepted file (rw is at e) in
-      rw (is, a .reading-is) (a .reports)
 
 abbrev zeros : ℕ → List ℕ
 zeros n = replicate n 0

@@ -1,14 +1,18 @@
 -- Texts put one behind the other.
-use Prim.Native.Nat.{ℕ, _+_}
-use mathlib.Core.Path.{sym, ap, _∙_}
+use Prim.Native.Nat.{ℕ}
+use mathlib.Core.Path.{_≡_, sym, ap, _∙_}
 use mathlib.Core.List.{List, [], _∷_, _++_}
 use native.Mathlib.Omega.{arith}
-use lib.ListN.{length-append}
-use lib.Seq.{sets, append-snoc}
+use lib.ListN.{length, length-append}
+use lib.Seq.{sets, length-sets, append-snoc}
 use Rattle.listing.specs.Handed.{Put}
 use Rattle.dayfile.proofs.laws.Stores.{stored-behind}
 
 module _ {l m a : List ℕ} {at n : ℕ} (first : Put l at a m n) where
+  -- no byte is added to the buffer
+  pub put-length : length m ≡ length l
+  put-length = ap length (first .stored) ∙ length-sets l at a
+
   -- two texts are one
   pub then : {b k : List ℕ} {r : ℕ} → Put m n b k r → Put l at (a ++ b) k r
   then {b} {k} {r} second =

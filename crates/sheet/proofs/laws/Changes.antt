@@ -27,6 +27,7 @@ placed spaces count s =
     record {
       opened = s .opened;
       length = s .length;
+      vessel = s .vessel;
       spaces = spaces;
       count = count;
       changes = s .changes;

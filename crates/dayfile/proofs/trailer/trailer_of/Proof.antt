@@ -15,20 +15,26 @@ array-read-t9 c = search needs
 cast-t10 : tie.Need-cast-t10
 cast-t10 c = omega (arith, within-trailer (c .args .t1) 2 (lit< tt) (c .pre))
 
-array-read-t13 : tie.Need-array-read-t13
-array-read-t13 c = search needs
+array-read-form-told : tie.Need-array-read-form-told
+array-read-form-told c = search needs
 
-cast-t14 : tie.Need-cast-t14
-cast-t14 c = omega (arith, within-trailer (c .args .t1) 4 (lit< tt) (c .pre))
+form-told-requires : tie.Need-form-told-requires
+form-told-requires c κs = search needs
 
-array-read-t18 : tie.Need-array-read-t18
-array-read-t18 c = search needs
+array-read-t17 : tie.Need-array-read-t17
+array-read-t17 c = search needs
 
-array-read-t21 : tie.Need-array-read-t21
-array-read-t21 c = search needs
+cast-t18 : tie.Need-cast-t18
+cast-t18 c = omega (arith, within-trailer (c .before .args .t1) 4 (lit< tt) (c .before .pre))
+
+array-read-t22 : tie.Need-array-read-t22
+array-read-t22 c = search needs
+
+array-read-t25 : tie.Need-array-read-t25
+array-read-t25 c = search needs
 
 returns : tie.Need-returns
-returns c = search needs
+returns c = rw (c .form-told .ensures)
 
 pub trailer-of-spec : {M : Type 1} → statement M
 trailer-of-spec =
@@ -37,8 +43,10 @@ trailer-of-spec =
     array-read-t5
     array-read-t9
     cast-t10
-    array-read-t13
-    cast-t14
-    array-read-t18
-    array-read-t21
+    array-read-form-told
+    form-told-requires
+    array-read-t17
+    cast-t18
+    array-read-t22
+    array-read-t25
     returns)

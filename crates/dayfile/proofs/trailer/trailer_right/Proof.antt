@@ -1,10 +1,11 @@
 -- `trailer_right` meets its contract: a count in its range has a distance that doesn't overflow.
-use Prim.Native.Nat.{ℕ}
-use mathlib.Core.Path.{sym, ap, _∙_}
-use mathlib.Core.Bool.{Bool, _&&_}
-use lib.Dec.{eqb, lit<}
+use mathlib.Core.Path.{_≡_, ap, _∙_}
+use lib.Dec.{lit<}
 use lib.ListN.{getD}
-use Rattle.dayfile.specs.Trailer.{trailerRight, sheetSize}
+use Rattle.measure.proofs.laws.Tests.{holds, fails}
+use Rattle.dayfile.specs.Forms.{isForm, formOf}
+use Rattle.dayfile.specs.Trailer.{formIn, trailerRight, sheetSize}
+use Rattle.dayfile.specs.declared.forms.Form.{Form}
 use Rattle.dayfile.proofs.laws.Trailer.{within-fields}
 use borrow.Author.Needs.{needs}
 use Rattle.dayfile.proofs.trailer.trailer_right.Statement.{statement}
@@ -22,27 +23,52 @@ slice-aggregate-in-ranges-3 c = search needs
 in-ranges-requires : tie.Need-in-ranges-requires
 in-ranges-requires c κs = search needs
 
+returns : tie.Need-returns
+unfolding trailerRight
+returns c = rw (fails (c .before .in-ranges .ensures) (c .if1 .taken))
+
+array-read-form-told : tie.Need-array-read-form-told
+array-read-form-told c = search needs
+
+form-told-requires : tie.Need-form-told-requires
+form-told-requires c κs = search needs
+
+is-form-requires : tie.Need-is-form-requires
+is-form-requires c κs = search needs
+
+-- the form judged is the one told
+told : (c : tie.After-is-form) → c .is-form .result ≡ isForm (formIn (c .before .before .before .before .before .before .before .args .t1))
+told c = c .is-form .ensures ∙ ap isForm (c .before .form-told .ensures)
+
+returns-2 : tie.Need-returns-2
+unfolding trailerRight
+returns-2 c =
+    rw (holds (c .before .before .before .before .in-ranges .ensures) (c .before .before .before .if1 .left), fails (told (c .before)) (c .if2 .taken))
+
 array-read-result : tie.Need-array-read-result
 array-read-result c = search needs
+
+form-of-requires : tie.Need-form-of-requires
+form-of-requires c κs = search needs
 
 array-read-sheet-size : tie.Need-array-read-sheet-size
 array-read-sheet-size c = search needs
 
 sheet-size-requires : tie.Need-sheet-size-requires
-sheet-size-requires c κs = within-fields (c .before .before .before .before .before .args .t1) 1 (lit< tt) (sym (c .before .in-ranges .ensures) ∙ c .if1 .taken)
+sheet-size-requires c κs =
+    let i = c .before .before .before .before in
+    within-fields (i .before .before .before .before .before .args .t1) 1 (lit< tt) (holds (i .before .in-ranges .ensures) (i .if1 .left))
 
-returns : tie.Need-returns
+returns-3 : tie.Need-returns-3
 unfolding trailerRight
-returns c =
-    let v = c .before .before .before .before .before .before .args .t1 in
-    ap (λ (n : ℕ). eqb (getD v 0 0) n) (c .sheet-size .ensures)
-    ∙ sym (ap (λ (t : Bool). t && eqb (getD v 0 0) (sheetSize (getD v 1 0))) (sym (c .before .before .in-ranges .ensures) ∙ c .before .if1 .taken))
-
-returns-2 : tie.Need-returns-2
-unfolding trailerRight
-returns-2 c =
-    let v = c .before .before .before .before .before .args .t1 in
-    sym (ap (λ (t : Bool). t && eqb (getD v 0 0) (sheetSize (getD v 1 0))) (sym (c .before .in-ranges .ensures) ∙ c .if1 .left))
+returns-3 c =
+    let o = c .before .before .before in
+    let i = o .before .before in
+    let v = i .before .before .before .before .before .args .t1 in
+    let form = c .before .form-of .ensures ∙ ap formOf (o .before .form-told .ensures) in
+    let size : c .sheet-size .result ≡ sheetSize (formOf (formIn v)) (getD v 1 0) =
+    c .sheet-size .ensures ∙ ap (λ (f : Form). sheetSize f (getD v 1 0)) form in
+    rw (holds (i .before .in-ranges .ensures) (i .if1 .left), holds (told o) (c .before .before .if2 .left), size)
 
 pub trailer-right-spec : {M : Type 1} → statement M
 trailer-right-spec =
@@ -52,8 +78,13 @@ trailer-right-spec =
     slice-aggregate-in-ranges-2
     slice-aggregate-in-ranges-3
     in-ranges-requires
+    returns
+    array-read-form-told
+    form-told-requires
+    is-form-requires
+    returns-2
     array-read-result
+    form-of-requires
     array-read-sheet-size
     sheet-size-requires
-    returns
-    returns-2)
+    returns-3)

@@ -1,172 +1,202 @@
--- `writing::store` meets its contract: refused as its report is, or for room; else the records and then the trailer are stored.
-use Prim.Native.Nat.{ℕ, _-_, _<_}
+-- `writing::store` meets its contract: refused for a number lost or for room; else the records are stored, and what stands behind them.
+use Prim.Native.Nat.{ℕ, _+_, _*_, _-_, _≤_}
 use mathlib.Core.Path.{_≡_, refl, sym, ap, _∙_}
+use mathlib.Core.Bool.{false, _||_}
 use mathlib.Core.List.{List}
+use native.Mathlib.Nat.{le-trans, mul-le-mul-left, mul-le-mul-right}
 use native.Mathlib.Omega.{arith}
-use lib.ListN.{length, length-take, length-drop}
-use Rattle.sheet.specs.Calls.{reported}
-use Rattle.sheet.specs.declared.sheet.Sheet.{Sheet}
-use Rattle.sheet.specs.declared.calls.Reported.{Reported}
-use Rattle.sheet.proofs.laws.Sheet.{standing-count-le, usable-counts}
-use Rattle.sheet.proofs.laws.Report.{given, handed-out}
-use Rattle.dayfile.specs.Trailer.{sheetSize}
-use Rattle.dayfile.specs.Handed.{handedBack}
-use Rattle.dayfile.specs.declared.writing.Stored.{Stored}
-use Rattle.dayfile.proofs.laws.Writing.{Answered, trailer-is, bytes-are, refused-with, as-report, no-room, stored-whole}
+use borrow.Author.Tests.{ltb-false}
+use lib.Dec.{ltb}
+use lib.ListN.{length, take, length-take, length-drop}
+use lib.Seq.{length-take-le}
+use Rattle.spaces.specs.declared.space.Space.{Space}
+use Rattle.dayfile.specs.Forms.{formOf, lost}
+use Rattle.dayfile.specs.Record.{recordSize}
+use Rattle.dayfile.specs.Trailer.{endSize, sheetSize}
+use Rattle.dayfile.specs.Writing.{losesDeck, tooLittleRoom}
+use Rattle.dayfile.specs.Handed.{mostRecord}
+use Rattle.dayfile.specs.declared.forms.Form.{Form}
+use Rattle.dayfile.specs.declared.trailer.Trailer.{Trailer}
+use Rattle.dayfile.proofs.laws.Writing.{loses, no-room, stored-whole}
 use borrow.Author.Needs.{needs}
 use Rattle.dayfile.proofs.writing.store.Statement.{statement}
 use Rattle.dayfile.proofs.writing.store.Tie as tie
 
--- 15 once the report is given
-refused-15 : (s : Sheet) (justified at : ℕ) (buffer : List ℕ) → reported s justified .number ≡ 0 → length buffer - at < sheetSize (s .count)
-    → Answered s justified at buffer (record { number = 15; bytes = 0; sheet = s }) buffer
-refused-15 s justified at buffer e h = refused-with s justified at buffer 15 (no-room s justified at buffer e h) (λ z. omega arith)
+form-of-requires : tie.Need-form-of-requires
+form-of-requires c κs = search needs
 
-report-requires : tie.Need-report-requires
-report-requires c κs = search needs
+sheet-size-requires : tie.Need-sheet-size-requires
+sheet-size-requires c κs = search needs
+
+loses-number-requires : tie.Need-loses-number-requires
+loses-number-requires c κs = search needs
+
+too-little-room-requires : tie.Need-too-little-room-requires
+too-little-room-requires c κs = search needs
+
+-- 20 and 15, as the code looks for them
+module _ (c : tie.After-too-little-room) where
+  abbrev t : Trailer
+  t = c .before .before .before .before .before .args .trailer
+
+  abbrev vessel : ℕ
+  vessel = c .before .before .before .before .before .args .vessel
+
+  abbrev row : List Space
+  row = c .before .before .before .before .before .args .spaces
+
+  abbrev at : ℕ
+  at = c .before .before .before .before .before .args .at
+
+  abbrev buffer : List ℕ
+  buffer = c .before .before .before .before .before .args .buf .now
+
+  -- the spaces that the trailer counts
+  abbrev xs : List Space
+  xs = take (t .count) row
+
+  few : t .count ≤ 200
+  few = c .before .before .before .before .before .pre
+
+  full : length (c .before .before .before .before .before .args .spaces) ≡ 200
+  full = search needs
+
+  form-is : c .before .before .before .form-of .result ≡ formOf (t .form)
+  form-is = c .before .before .before .form-of .ensures
+
+  loses-is : c .before .loses-number .result ≡ (lost (formOf (t .form) .vessel) vessel || losesDeck (formOf (t .form)) xs)
+  loses-is =
+      c .before .loses-number .ensures
+      ∙ ap (λ (f : Form). lost (f .vessel) vessel || losesDeck f xs) form-is
+
+  size-is : c .before .before .sheet-size .result ≡ sheetSize (formOf (t .form)) (t .count)
+  size-is = c .before .before .sheet-size .ensures ∙ ap (λ (f : Form). sheetSize f (t .count)) form-is
+
+  short-is : c .too-little-room .result ≡ tooLittleRoom (formOf (t .form)) (t .count) (length buffer) at
+  short-is = c .too-little-room .ensures ∙ ap (λ (n : ℕ). ltb (length buffer - at) n) size-is
+
+  -- there is room for all of it
+  module _ (left : c .too-little-room .result ≡ false) where
+    enough : c .before .before .sheet-size .result ≤ length buffer - at
+    enough = ltb-false _ _ (sym (c .too-little-room .ensures) ∙ left)
+
+    from-place : at ≤ length buffer
+    from-place = omega (arith, enough, size-is)
 
 refused-requires : tie.Need-refused-requires
 refused-requires c κs = search needs
 
 returns : tie.Need-returns
 returns c =
-    let a = c .before .before .before .before .before .args in
-    let e = ap (λ (r : Reported). r .number) (c .before .before .before .report .ensures) in
-    let none = c .before .if1 .taken in
-    let w = refused-with (a .sheet) (a .justified) (a .at) (a .buf .now) _ (as-report (a .sheet) (a .justified) (a .at) (a .buf .now) _ (sym e) none) none in
-    (ap (λ (r : Stored). handedBack r (a .sheet)) (c .refused .ensures) ∙ w .0, w .1)
-
-standing-count-requires : tie.Need-standing-count-requires
-standing-count-requires c κs = search needs
-
-sheet-size-requires : tie.Need-sheet-size-requires
-sheet-size-requires c κs =
-    let a = c .before .before .before .before .before .args in
-    omega (arith, c .standing-count .ensures, standing-count-le (a .sheet))
+    let k = c .before .before in
+    let w = loses (t k) (vessel k) (xs k) (at k) (buffer k) (sym (loses-is k) ∙ c .before .if1 .taken) in
+    (c .refused .ensures ∙ w .0, w .1)
 
 refused-requires-2 : tie.Need-refused-requires-2
 refused-requires-2 c κs = search needs
 
 returns-2 : tie.Need-returns-2
 returns-2 c =
-    let a = c .before .before .before .before .before .before .before .before .args in
-    let g = given (a .sheet) (a .justified) _ (c .before .before .before .before .before .before .report .ensures) (c .before .before .before .before .if1 .left) in
-    let w = refused-15 (a .sheet) (a .justified) (a .at) (a .buf .now) (g .number-is) (omega (arith, c .before .if2 .taken)) in
-    (ap (λ (r : Stored). handedBack r (a .sheet)) (c .refused2 .ensures) ∙ w .0, w .1)
-
-sub-if3 : tie.Need-sub-if3
-sub-if3 c = search needs
-
-refused-requires-3 : tie.Need-refused-requires-3
-refused-requires-3 c κs = search needs
-
-returns-3 : tie.Need-returns-3
-returns-3 c =
-    let a = c .before .before .before .before .before .before .before .before .before .args in
-    let g = given (a .sheet) (a .justified) _ (c .before .before .before .before .before .before .before .report .ensures) (c .before .before .before .before .before .if1 .left) in
-    let n = c .before .before .before .before .standing-count .ensures ∙ handed-out (a .sheet) (g .is-usable) .count-is in
-    let w = refused-15 (a .sheet) (a .justified) (a .at) (a .buf .now) (g .number-is) (omega (arith, c .before .if3 .taken, c .before .before .before .sheet-size .ensures, n)) in
-    (ap (λ (r : Stored). handedBack r (a .sheet)) (c .refused3 .ensures) ∙ w .0, w .1)
-
-tonnage-length-requires : tie.Need-tonnage-length-requires
-tonnage-length-requires c κs = search needs
+    let k = c .before .before .before in
+    let w = no-room (t k) (vessel k) (xs k) (at k) (buffer k) (sym (loses-is k) ∙ c .before .before .if1 .left) (sym (short-is k) ∙ c .before .if2 .taken) in
+    (c .refused2 .ensures ∙ w .0, w .1)
 
 sub-write-records : tie.Need-sub-write-records
-sub-write-records c = search needs
+sub-write-records c = omega (arith, from-place (c .before .before) (c .if2 .left))
 
 part-write-records-start : tie.Need-part-write-records-start
-part-write-records-start c = search needs
+part-write-records-start c = omega (arith, from-place (c .before .before) (c .if2 .left))
 
 part-write-records-end : tie.Need-part-write-records-end
 part-write-records-end c = search needs
 
-places-requires : tie.Need-places-requires
-places-requires c κs = search needs
-
 write-records-requires : tie.Need-write-records-requires
 write-records-requires c κs =
-    let a = c .before .before .before .before .before .before .before .before .before .before .before .args in (
-      omega (arith, c .before .before .before .before .before .before .standing-count .ensures, standing-count-le (a .sheet)),
-      simp (length-take, length-drop) (omega (arith, c .before .before .before .before .before .sheet-size .ensures, c .before .before .before .if3 .left)),
+    let k = c .before .before .before in
+    let left = c .before .if2 .left in (
+      search needs,
+      simp (length-take, length-drop) (omega (arith, enough k left, from-place k left, k .before .before .sheet-size .ensures)),
+    )
+
+record-size-requires : tie.Need-record-size-requires
+record-size-requires c κs = search needs
+
+-- the records' bytes are counted, and what stands behind them has room
+ends : (c : tie.After-record-size)
+    → (let k = c .before .before .before .before .before .before .before in
+    let bytes = c .record-size .result * t k .count in
+    (bytes ≤ mostRecord * 200) × (at k + bytes + endSize (formOf (t k .form)) ≤ length (buffer k)))
+ends c =
+    let k = c .before .before .before .before .before .before .before in
+    let left = c .before .before .before .before .before .if2 .left in
+    let n = t k .count in
+    let many : c .record-size .result * n ≡ recordSize (k .before .before .before .form-of .result) * n = ap (λ (m : ℕ). m * n) (c .record-size .ensures .0) in (
+      le-trans (mul-le-mul-right n (c .record-size .ensures .1)) (mul-le-mul-left mostRecord (few k)),
+      omega (arith, many, enough k left, from-place k left, k .before .before .sheet-size .ensures, ap endSize (form-is k)),
     )
 
 mul-end : tie.Need-mul-end
-mul-end c = search needs
+mul-end c = record { fits = omega (arith, ends c .0) }
 
 add-end : tie.Need-add-end
-add-end c = search needs
+add-end c = let h = ends c .1 in search needs
 
-sub-write-trailer : tie.Need-sub-write-trailer
-sub-write-trailer c = search needs
+sub-write-end : tie.Need-sub-write-end
+sub-write-end c = let h = ends c .1 in search needs
 
-part-write-trailer-start : tie.Need-part-write-trailer-start
-part-write-trailer-start c = search needs
+part-write-end-start : tie.Need-part-write-end-start
+part-write-end-start c = let h = ends c .1 in search needs
 
-part-write-trailer-end : tie.Need-part-write-trailer-end
-part-write-trailer-end c = search needs
+part-write-end-end : tie.Need-part-write-end-end
+part-write-end-end c = search needs
 
-write-trailer-requires : tie.Need-write-trailer-requires
-write-trailer-requires c κs =
-    let a = c .before .before .before .before .before .before .before .before .before .before .before .before .before .before .before .args in (
-      search needs,
-      omega (arith, c .before .before .before .before .before .before .before .before .before .before .standing-count .ensures, standing-count-le (a .sheet)),
-    )
+write-end-requires : tie.Need-write-end-requires
+write-end-requires c κs = let h = ends (c .before) .1 in search needs
 
 same-length : tie.Need-same-length
 same-length c = search needs
 
-returns-4 : tie.Need-returns-4
-returns-4 c =
-    let a = c .before .before .before .before .before .before .before .before .before .before .before .before .before .before .before .before .before .before .args in
-    let s = a .sheet in
-    let r = c .before .before .before .before .before .before .before .before .before .before .before .before .before .before .before .before .report .result in
-    let g = given s (a .justified) r (c .before .before .before .before .before .before .before .before .before .before .before .before .before .before .before .before .report .ensures) (c .before .before .before .before .before .before .before .before .before .before .before .before .before .before .if1 .left) in
-    let out = handed-out s (g .is-usable) in
-    let n = c .before .before .before .before .before .before .before .before .before .before .before .before .before .standing-count .result in
-    let count = c .before .before .before .before .before .before .before .before .before .before .before .before .before .standing-count .ensures ∙ out .count-is in
-    let row = c .before .before .before .before .before .before .before .places .result in
-    let rows = c .before .before .before .before .before .before .before .places .ensures ∙ out .places-are in
-    let whole : length row ≡ 200 = search needs in
-    let l = c .before .before .before .before .before .before .before .before .before .tonnage-length .result in
-    let lengths = c .before .before .before .before .before .before .before .before .before .tonnage-length .ensures ∙ out .length-is in
-    stored-whole s (a .justified) (a .at) (a .buf .now) n (c .before .before .before .before .before .before .before .before .before .before .before .before .sheet-size .result) row _ _ _ _
-    (g .number-is)
-    (omega (arith, sym (ap length rows) ∙ whole, usable-counts s (g .is-usable) .places))
-    count
-    rows
-    (bytes-are s (a .justified) n row _ count rows (trailer-is s (a .justified) n (r .gross) (r .net) l count lengths (g .gross-is) (g .net-is)))
-    (c .before .before .before .before .before .before .before .before .before .before .before .before .sheet-size .ensures)
-    (c .before .before .before .before .before .before .before .before .before .before .before .if2 .left)
-    (c .before .before .before .before .before .before .before .before .before .before .if3 .left)
+returns-3 : tie.Need-returns-3
+returns-3 c =
+    let e = c .before .before .before .before in
+    let k = e .before .before .before .before .before .before .before in
+    let left = e .before .before .before .before .before .if2 .left in
+    let f = k .before .before .before .form-of in
+    let n = t k .count in
+    stored-whole (t k) (vessel k) (xs k) (at k) (buffer k) _ _ _ _ _
+    (sym (loses-is k) ∙ e .before .before .before .before .before .before .if1 .left)
+    (sym (short-is k) ∙ left)
+    (length-take-le n (row k) (omega (arith, full k, few k)))
+    (size-is k)
+    (ap (λ (r : ℕ). at k + r * n) (e .record-size .ensures .0) ∙ ap (λ (g : Form). at k + recordSize g * n) (form-is k))
+    (from-place k left)
+    (enough k left)
     refl
-    (c .before .before .before .before .before .before .write-records .ensures)
-    (c .before .before .write-trailer .ensures)
+    (rw (form-is k) at (c .before .before .before .before .before .before .before .write-records .ensures))
+    (c .before .before .write-end .ensures)
 
 pub store-spec : {M : Type 1} → statement M
 store-spec =
     tie.close
     (tie.spec
-    report-requires
+    form-of-requires
+    sheet-size-requires
+    loses-number-requires
+    too-little-room-requires
     refused-requires
     returns
-    standing-count-requires
-    sheet-size-requires
     refused-requires-2
     returns-2
-    sub-if3
-    refused-requires-3
-    returns-3
-    tonnage-length-requires
     sub-write-records
     part-write-records-start
     part-write-records-end
-    places-requires
     write-records-requires
+    record-size-requires
     mul-end
     add-end
-    sub-write-trailer
-    part-write-trailer-start
-    part-write-trailer-end
-    write-trailer-requires
+    sub-write-end
+    part-write-end-start
+    part-write-end-end
+    write-end-requires
     same-length
-    returns-4)
+    returns-3)

@@ -4,7 +4,7 @@ use native.Mathlib.Omega.{arith}
 use Rattle.listing.specs.Text.{decimal}
 use Rattle.listing.specs.Lines.{spaceLine}
 use Rattle.listing.proofs.laws.Lines.{Words, words}
-use Rattle.listing.proofs.laws.Puts.{then, then-behind}
+use Rattle.listing.proofs.laws.Puts.{put-length, then, then-behind}
 use borrow.Author.Needs.{needs}
 use Rattle.listing.proofs.lines.put_space.Statement.{statement}
 use Rattle.listing.proofs.lines.put_space.Tie as tie
@@ -12,44 +12,40 @@ use Rattle.listing.proofs.lines.put_space.Tie as tie
 cast-put-number : tie.Need-cast-put-number
 cast-put-number c = search needs
 
+-- how long the words of the space are
+worded : (c : tie.After-struct-known) → Words (c .before .before .before .args .x)
+worded c = words (c .before .before .before .args .x) (search needs)
+
 put-number-requires : tie.Need-put-number-requires
-put-number-requires c κs =
-    let x = c .before .before .before .args .x in
-    let w : Words x = words x (search needs) in
-    omega arith
+put-number-requires c κs = let w = worded c in omega arith
 
 cast-put-number-2 : tie.Need-cast-put-number-2
 cast-put-number-2 c = search needs
 
 put-number-requires-2 : tie.Need-put-number-requires-2
-put-number-requires-2 c κs =
-    let x = c .before .before .before .before .before .before .before .before .args .x in
-    let w : Words x = words x (search needs) in
-    omega arith
+put-number-requires-2 c κs = let w = worded (c .before .before .before .before .before) in omega arith
 
 put-letter-requires : tie.Need-put-letter-requires
-put-letter-requires c κs =
-    let x = c .before .before .before .before .before .before .before .before .before .before .before .before .args .x in
-    let w : Words x = words x (search needs) in
-    omega arith
+put-letter-requires c κs = let w = worded (c .before .before .before .before .before .before .before .before .before) in omega arith
 
 cast-put-number-3 : tie.Need-cast-put-number-3
 cast-put-number-3 c = search needs
 
 put-number-requires-3 : tie.Need-put-number-requires-3
-put-number-requires-3 c κs =
-    let x = c .before .before .before .before .before .before .before .before .before .before .before .before .before .before .before .before .before .args .x in
-    let w : Words x = words x (search needs) in
-    omega arith
+put-number-requires-3 c κs = let w = worded (c .before .before .before .before .before .before .before .before .before .before .before .before .before .before) in omega arith
 
 cast-put-hundredths : tie.Need-cast-put-hundredths
 cast-put-hundredths c = search needs
 
 put-hundredths-requires : tie.Need-put-hundredths-requires
 put-hundredths-requires c κs =
-    let x = c .before .before .before .before .before .before .before .before .before .before .before .before .before .before .before .before .before .before .before .before .before .before .args .x in
-    let w : Words x = words x (search needs) in
-    omega arith
+    let third = c .before .before .before .before in
+    let letter = third .before .before .before .before .before in
+    let second = letter .before .before .before .before in
+    let first = second .before .before .before .before .before in
+    let s = first .before .before .before .before in
+    let w = worded (first .before) in
+    omega (arith, s .pre, first .put-number .ensures .next-is, put-length (first .put-number .ensures))
 
 same-length : tie.Need-same-length
 same-length c = search needs

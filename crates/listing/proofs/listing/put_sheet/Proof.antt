@@ -7,8 +7,8 @@ use borrow.Author.Needs.{needs}
 use Rattle.listing.proofs.listing.put_sheet.Statement.{statement}
 use Rattle.listing.proofs.listing.put_sheet.Tie as tie
 
-report-requires : tie.Need-report-requires
-report-requires c κs = search needs
+figures-requires : tie.Need-figures-requires
+figures-requires c κs = search needs
 
 slice-aggregate-put-figure : tie.Need-slice-aggregate-put-figure
 slice-aggregate-put-figure c = search needs
@@ -54,20 +54,20 @@ returns c =
     let length' = c .before .before .before .before .before .before .before .before .before .before .before .before .before .before .before .before .before .before .before .before .tonnage-length .ensures in
     let count = c .before .before .before .before .before .before .before .before .before .before .before .before .before .standing-count .ensures in
     let places = c .before .before .before .before .before .before .before .before .before .before .before .before .before .before .places .ensures in
-    let report = c .before .before .before .before .before .before .before .before .before .before .before .before .before .before .before .before .before .before .before .before .before .before .before .report .ensures in
+    let figures = c .before .before .before .before .before .before .before .before .before .before .before .before .before .before .before .before .before .before .before .before .before .before .before .figures .ensures in
     let text = text-handed-out (s .args .sheet) (s .args .justified) (s .pre .1) in
     let first = c .before .before .before .before .before .before .before .before .before .before .before .before .before .before .before .before .before .before .put-figure .ensures in
     let lines = c .before .before .before .before .before .before .before .before .before .before .before .before .put-spaces .ensures in
     let gross = c .before .before .before .before .before .before .before .put-figure2 .ensures in
     let net = c .before .before .put-figure3 .ensures in
-    let all = rw (length', count, places, report, text) at (then (then (then (first .put) (lines .put)) (gross .put)) (net .put)) in
+    let all = rw (length', count, places, figures, text) at (then (then (then (first .put) (lines .put)) (gross .put)) (net .put)) in
     record { put = all; fits = omega (arith, standing-count-le (s .args .sheet), all .next-is) }
 
 pub put-sheet-spec : {M : Type 1} → statement M
 put-sheet-spec =
     tie.close
     (tie.spec
-    report-requires
+    figures-requires
     slice-aggregate-put-figure
     tonnage-length-requires
     cast-put-figure

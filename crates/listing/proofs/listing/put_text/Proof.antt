@@ -1,6 +1,7 @@
 -- `put_text` meets its contract, by the file's size and the number that reading gives.
 use native.Mathlib.Omega.{arith}
-use Rattle.listing.proofs.laws.Listing.{too-long, refused-text, read-text, read-reports}
+use Rattle.dayfile.proofs.laws.Reading.{read-reports}
+use Rattle.listing.proofs.laws.Listing.{too-long, refused-text, read-text}
 use borrow.Author.Needs.{needs}
 use Rattle.listing.proofs.listing.put_text.Statement.{statement}
 use Rattle.listing.proofs.listing.put_text.Tie as tie

@@ -55,8 +55,8 @@ slice-aggregate-same-4 c = search needs
 same-requires-4 : tie.Need-same-requires-4
 same-requires-4 c κs = search needs
 
-judge-hex-requires : tie.Need-judge-hex-requires
-judge-hex-requires c κs = search needs
+judge-up-to-requires-3 : tie.Need-judge-up-to-requires-3
+judge-up-to-requires-3 c κs = search needs
 
 returns-4 : tie.Need-returns-4
 unfolding judgedWord
@@ -64,19 +64,38 @@ returns-4 c =
     let at-fill = c .before .before .before .before in
     let at-size = at-fill .before .before .before in
     let at-list = at-size .before .before .before in
-    rw (sym (at-list .before .same .ensures) ∙ at-list .if1 .left, sym (at-size .before .same2 .ensures) ∙ at-size .if2 .left, sym (at-fill .before .same3 .ensures) ∙ at-fill .if3 .left, sym (c .before .before .same4 .ensures) ∙ c .before .if4 .taken) (c .judge-hex .ensures)
+    rw (sym (at-list .before .same .ensures) ∙ at-list .if1 .left, sym (at-size .before .same2 .ensures) ∙ at-size .if2 .left, sym (at-fill .before .same3 .ensures) ∙ at-fill .if3 .left, sym (c .before .before .same4 .ensures) ∙ c .before .if4 .taken) (c .judge-up-to3 .ensures)
 
-judge-number-requires : tie.Need-judge-number-requires
-judge-number-requires c κs = search needs
+slice-aggregate-same-5 : tie.Need-slice-aggregate-same-5
+slice-aggregate-same-5 c = search needs
+
+same-requires-5 : tie.Need-same-requires-5
+same-requires-5 c κs = search needs
+
+judge-hex-requires : tie.Need-judge-hex-requires
+judge-hex-requires c κs = search needs
 
 returns-5 : tie.Need-returns-5
 unfolding judgedWord
 returns-5 c =
-    let at-hex = c .before in
-    let at-fill = at-hex .before .before .before in
+    let at-vessel = c .before .before .before .before in
+    let at-fill = at-vessel .before .before .before in
     let at-size = at-fill .before .before .before in
     let at-list = at-size .before .before .before in
-    rw (sym (at-list .before .same .ensures) ∙ at-list .if1 .left, sym (at-size .before .same2 .ensures) ∙ at-size .if2 .left, sym (at-fill .before .same3 .ensures) ∙ at-fill .if3 .left, sym (at-hex .before .same4 .ensures) ∙ at-hex .if4 .left) (c .judge-number .ensures)
+    rw (sym (at-list .before .same .ensures) ∙ at-list .if1 .left, sym (at-size .before .same2 .ensures) ∙ at-size .if2 .left, sym (at-fill .before .same3 .ensures) ∙ at-fill .if3 .left, sym (at-vessel .before .same4 .ensures) ∙ at-vessel .if4 .left, sym (c .before .before .same5 .ensures) ∙ c .before .if5 .taken) (c .judge-hex .ensures)
+
+judge-number-requires : tie.Need-judge-number-requires
+judge-number-requires c κs = search needs
+
+returns-6 : tie.Need-returns-6
+unfolding judgedWord
+returns-6 c =
+    let at-hex = c .before in
+    let at-vessel = at-hex .before .before .before in
+    let at-fill = at-vessel .before .before .before in
+    let at-size = at-fill .before .before .before in
+    let at-list = at-size .before .before .before in
+    rw (sym (at-list .before .same .ensures) ∙ at-list .if1 .left, sym (at-size .before .same2 .ensures) ∙ at-size .if2 .left, sym (at-fill .before .same3 .ensures) ∙ at-fill .if3 .left, sym (at-vessel .before .same4 .ensures) ∙ at-vessel .if4 .left, sym (at-hex .before .same5 .ensures) ∙ at-hex .if5 .left) (c .judge-number .ensures)
 
 pub judge-word-spec : {M : Type 1} → statement M
 judge-word-spec =
@@ -96,7 +115,11 @@ judge-word-spec =
     returns-3
     slice-aggregate-same-4
     same-requires-4
-    judge-hex-requires
+    judge-up-to-requires-3
     returns-4
+    slice-aggregate-same-5
+    same-requires-5
+    judge-hex-requires
+    returns-5
     judge-number-requires
-    returns-5)
+    returns-6)

@@ -11,18 +11,18 @@ as-number : (t : Bool) → boolByte t ≡ cond t 1 0
 as-number true = refl
 as-number false = refl
 
+cast-open-mark : tie.Need-cast-open-mark
+cast-open-mark c = search needs
+
 empty-requires : tie.Need-empty-requires
 empty-requires c κs = search needs
 
 keeping-requires : tie.Need-keeping-requires
 keeping-requires c κs = search needs
 
-cast-t8 : tie.Need-cast-t8
-cast-t8 c = search needs
-
 returns : tie.Need-returns
 unfolding blank
 returns c = rw (c .keeping .ensures, c .before .empty .ensures, as-number (c .before .before .args .opened))
 
 pub blank-spec : {M : Type 1} → statement M
-blank-spec = tie.close (tie.spec empty-requires keeping-requires cast-t8 returns)
+blank-spec = tie.close (tie.spec cast-open-mark empty-requires keeping-requires returns)

@@ -2,10 +2,10 @@
 use mathlib.Core.Path.{_≡_, sym, ap, ap₂, _∙_}
 use mathlib.Core.Bool.{Bool, true, false, cond, not, _||_}
 use mathlib.Core.List.{List, _∷_}
-use Prim.Native.Nat.{ℕ, _≤_}
+use Prim.Native.Nat.{ℕ}
 use native.Mathlib.Omega.{arith}
-use borrow.Author.Tests.{not-false, lt-ltb, le-ltb}
-use lib.Dec.{eqb, ltb}
+use borrow.Author.Tests.{not-false}
+use lib.Dec.{eqb}
 use Rattle.measure.specs.Refusals.{firstOf}
 use Rattle.measure.specs.Tanks.{tankInRange}
 use Rattle.measure.specs.declared.offsets.Measured.{Measured}
@@ -14,7 +14,7 @@ use Rattle.measure.proofs.laws.Tanks.{judged-by-number}
 use Rattle.standard.specs.Tanks.{underDeckWith, tankTests, tankNumber}
 use Rattle.spaces.specs.declared.space.Space.{Space}
 use Rattle.sheet.specs.Sheet.{standing, usable}
-use Rattle.sheet.specs.Calls.{answered, changed}
+use Rattle.sheet.specs.Calls.{answered, changed, outOfRange}
 use Rattle.sheet.specs.Tanks.{tankOf, tankMeasured, tankIn, sectionsWrong, tankEntered}
 use Rattle.sheet.specs.declared.changes.Change.the-variants.{Entered}
 use Rattle.sheet.specs.declared.sheet.Sheet.{Sheet}
@@ -40,12 +40,12 @@ module _ (s : Sheet) (k : Tank) (ds bs : List ℕ) where
   from-measures = (not (tankInRange (k .length) (k .fore) ds bs), 2) ∷ (sectionsWrong (s .length) (standing s) k ds bs, 3) ∷ from-4
 
   abbrev told : ℕ
-  told = firstOf ((not (usable s), 1) ∷ (ltb 3 (k .standing), 2) ∷ from-measures)
+  told = firstOf ((not (usable s), 1) ∷ (outOfRange (k .standing) (k .deck), 2) ∷ from-measures)
 
-  -- 1 and 2 by the standing are passed over, measuring answered r, and `ill` says whether that is 2 or 3
+  -- 1 and 2 by standing and deck are passed over, measuring answered r, and `ill` says whether that is 2 or 3
   record Measuring (r : Measured) (ill : Bool) : Type 0 where
     on : usable s ≡ true
-    three : k .standing ≤ 3
+    stated : outOfRange (k .standing) (k .deck) ≡ false
     is : r ≡ tankMeasured (s .length) (standing s) k ds bs
     ill-is : ill ≡ (eqb (r .number) 2 || eqb (r .number) 3)
 
@@ -57,7 +57,7 @@ module _ (s : Sheet) (k : Tank) (ds bs : List ℕ) where
         ap (λ (t : Bool). cond t (r .number) (firstOf from-4)) (m .ill-is)
         ∙ ap (λ (q : Measured). cond (eqb (q .number) 2 || eqb (q .number) 3) (q .number) (firstOf from-4)) (m .is)
         ∙ judged-by-number (s .length) (u .length) (u .m) (k .length) (k .fore) ds bs from-4
-        ∙ sym (within s (ltb 3 (k .standing)) from-measures (m .on) (le-ltb 3 (k .standing) (m .three)))
+        ∙ sym (within s (outOfRange (k .standing) (k .deck)) from-measures (m .on) (m .stated))
 
     by-measures : ill ≡ true → _≡_ {A = Changed} (record { number = r .number; sheet = s }) (answered told s next)
     by-measures t = refused (r .number) s next (not-zero (r .number) (sym (m .ill-is) ∙ t)) ∙ ap (λ (n : ℕ). answered n s next) (rw t at number-is)
@@ -82,8 +82,11 @@ returns c =
     let a = c .before .before .before .before .args in
     let ds = a .depths .now in
     let bs = a .breadths .now in
-    answered-1 (a .self) (next (a .self) (a .tank) ds bs) ((ltb 3 (a .tank .standing), 2) ∷ from-measures (a .self) (a .tank) ds bs)
+    answered-1 (a .self) (next (a .self) (a .tank) ds bs) ((outOfRange (a .tank .standing) (a .tank .deck), 2) ∷ from-measures (a .self) (a .tank) ds bs)
     (fails (c .before .usable .ensures .usable-is) (c .if1 .taken))
+
+out-of-range-requires : tie.Need-out-of-range-requires
+out-of-range-requires c κs = search needs
 
 returns-2 : tie.Need-returns-2
 unfolding tankEntered
@@ -92,9 +95,9 @@ returns-2 c =
     let a = u .before .before .before .args in
     let ds = a .depths .now in
     let bs = a .breadths .now in
-    answered-2 (a .self) (next (a .self) (a .tank) ds bs) (ltb 3 (a .tank .standing)) (from-measures (a .self) (a .tank) ds bs)
+    answered-2 (a .self) (next (a .self) (a .tank) ds bs) (outOfRange (a .tank .standing) (a .tank .deck)) (from-measures (a .self) (a .tank) ds bs)
     (holds (u .usable .ensures .usable-is) (c .before .before .if1 .left))
-    (lt-ltb 3 (a .tank .standing) (c .if2 .taken))
+    (sym (c .before .out-of-range .ensures) ∙ c .if2 .taken)
 
 measured-requires : tie.Need-measured-requires
 measured-requires c κs = search needs
@@ -109,7 +112,7 @@ measuring i =
     let one = two .before .before in
     record {
       on = holds (one .before .usable .ensures .usable-is) (one .if1 .left);
-      three = two .if2 .left;
+      stated = sym (two .before .out-of-range .ensures) ∙ two .if2 .left;
       is = i .before .measured .ensures;
       ill-is = i .ill-measured .ensures;
     }
@@ -178,6 +181,7 @@ enter-tank-spec =
     (tie.spec
     usable-requires
     returns
+    out-of-range-requires
     returns-2
     measured-requires
     ill-measured-requires

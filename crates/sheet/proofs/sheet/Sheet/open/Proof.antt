@@ -9,21 +9,21 @@ use Rattle.sheet.proofs.sheet.Sheet.open.Tie as tie
 tonnage-length-fits-requires : tie.Need-tonnage-length-fits-requires
 tonnage-length-fits-requires c κs = search needs
 
-blank-requires : tie.Need-blank-requires
-blank-requires c κs = search needs
+closed-requires : tie.Need-closed-requires
+closed-requires c κs = search needs
 
 returns : tie.Need-returns
 unfolding openedWith
-returns c = simp (fails (c .before .before .tonnage-length-fits .ensures) (c .before .if1 .taken), c .blank .ensures)
+returns c = simp (fails (c .before .before .tonnage-length-fits .ensures) (c .before .if1 .taken), c .closed .ensures)
 
-blank-requires-2 : tie.Need-blank-requires-2
-blank-requires-2 c κs = search needs
+blank-requires : tie.Need-blank-requires
+blank-requires c κs = search needs
 
 returns-2 : tie.Need-returns-2
 unfolding openedWith
-returns-2 c = simp (holds (c .before .before .tonnage-length-fits .ensures) (c .before .if1 .left), c .blank2 .ensures)
+returns-2 c = simp (holds (c .before .before .tonnage-length-fits .ensures) (c .before .if1 .left), c .blank .ensures)
 
 pub open-spec : {M : Type 1} → statement M
 open-spec =
     tie.close
-    (tie.spec tonnage-length-fits-requires blank-requires returns blank-requires-2 returns-2)
+    (tie.spec tonnage-length-fits-requires closed-requires returns blank-requires returns-2)

@@ -1,8 +1,8 @@
--- `read` meets its contract: the bytes that were laid are no more than the file has places.
+-- `take_file` meets its contract: the bytes that were laid are no more than the file has places.
 use Rattle.script.proofs.laws.Laid.{laid-front}
 use borrow.Author.Needs.{needs}
-use Rattle.survey.proofs.read.Statement.{statement}
-use Rattle.survey.proofs.read.Tie as tie
+use Rattle.survey.proofs.take_file.Statement.{statement}
+use Rattle.survey.proofs.take_file.Tie as tie
 
 large-buffer-requires : tie.Need-large-buffer-requires
 large-buffer-requires c κs = search needs
@@ -19,20 +19,17 @@ bytes-requires c κs = search needs
 array-share-prefix-file : tie.Need-array-share-prefix-file
 array-share-prefix-file c = search needs
 
-slice-aggregate-reading : tie.Need-slice-aggregate-reading
-slice-aggregate-reading c = laid-front _ _ (c .before .before .bytes .ensures)
+slice-aggregate-use-file : tie.Need-slice-aggregate-use-file
+slice-aggregate-use-file c = laid-front _ _ (c .before .before .bytes .ensures)
 
-reading-requires : tie.Need-reading-requires
-reading-requires c κs = search needs
-
-read-requires : tie.Need-read-requires
-read-requires c κs = search needs
+use-file-requires : tie.Need-use-file-requires
+use-file-requires c κs = search needs
 
 returns : tie.Need-returns
 returns c = search needs
 
-pub read-spec : {M : Type 1} → statement M
-read-spec =
+pub take-file-spec : {M : Type 1} → statement M
+take-file-spec =
     tie.close
     (tie.spec
     large-buffer-requires
@@ -40,7 +37,6 @@ read-spec =
     slice-aggregate-bytes
     bytes-requires
     array-share-prefix-file
-    slice-aggregate-reading
-    reading-requires
-    read-requires
+    slice-aggregate-use-file
+    use-file-requires
     returns)

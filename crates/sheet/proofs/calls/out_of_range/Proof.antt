@@ -1,0 +1,13 @@
+-- `out_of_range` meets its contract.
+use borrow.Author.Tests.{lt-ltb, le-ltb}
+use Rattle.sheet.proofs.calls.out_of_range.Statement.{statement}
+use Rattle.sheet.proofs.calls.out_of_range.Tie as tie
+
+returns : tie.Need-returns
+returns c = rw (lt-ltb 3 _ (c .if1 .taken))
+
+returns-2 : tie.Need-returns-2
+returns-2 c = rw (le-ltb 3 _ (c .if1 .left))
+
+pub out-of-range-spec : {M : Type 1} → statement M
+out-of-range-spec = tie.close (tie.spec returns returns-2)
