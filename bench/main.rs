@@ -10,6 +10,7 @@ mod desk;
 #[allow(dead_code)]
 #[path = "../rust/fummidrake.rs"]
 mod fummidrake;
+mod occurred;
 mod plain;
 mod random;
 mod timing;

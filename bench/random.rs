@@ -1,20 +1,19 @@
-//! Calls at random, made on each desk: so many that every number of refusal occurs, each of a move's in a move, and third intervals are
-//! rounded both ways.
+//! Calls at random, made on each desk: so many that every call gives each of its numbers, machinery of each class is reported, and third
+//! intervals are rounded both ways.
 use crate::answers::Seen;
 use crate::calls;
 use crate::cases::{sheet_of, size_of_sheet, PLACES};
 use crate::desk::{Call, Desks};
 use crate::fummidrake::{breadths_at_station, lay_out, stations, Entry, Tank};
+use crate::occurred::Occurred;
+use crate::plain::Space;
 
 const RUNS: usize = 600;
 const CALLS_A_RUN: usize = 100;
-/// The numbers of refusal, and 0; the greatest is 29.
-const NUMBERS: [usize; 22] = [0, 1, 2, 3, 4, 5, 6, 7, 8, 9, 10, 11, 12, 13, 14, 15, 16, 17, 18, 19, 20, 29];
-const GREATEST: usize = 29;
-/// Those of a move.
-const NUMBERS_OF_MOVE: [usize; 9] = [0, 2, 13, 14, 15, 16, 17, 18, 20];
 
 const UNDER_DECK: u8 = 1;
+const ROOM: u8 = 5;
+const MACHINERY: u8 = 4;
 /// Two bytes of the trailer, counted from the last one, from 0.
 const MARK: usize = 21;
 const BYTE_OF_FORM: usize = 20;
@@ -46,54 +45,7 @@ struct Survey<'a> {
     occurred: &'a mut Occurred,
 }
 
-/// What has occurred in the answers so far.
-#[derive(Default)]
-struct Occurred {
-    numbers: [bool; GREATEST + 1],
-    numbers_of_move: [bool; GREATEST + 1],
-    lengths: Rounded,
-    depths: Rounded,
-}
-
-/// Whether one of the third intervals was rounded up, and whether one was rounded down.
-#[derive(Default)]
-struct Rounded {
-    up: bool,
-    down: bool,
-}
-
-impl Rounded {
-    fn note(&mut self, roundings: &[i8]) {
-        self.up |= roundings.iter().any(|&rounding| rounding > 0);
-        self.down |= roundings.iter().any(|&rounding| rounding < 0);
-    }
-}
-
-impl Occurred {
-    fn note(&mut self, seen: &Seen) {
-        self.numbers[usize::from(seen.number)] = true;
-        self.lengths.note(&[seen.roundings.length]);
-        self.depths.note(&seen.roundings.depths);
-    }
-
-    /// An error says what hasn't.
-    fn all(&self) -> Result<(), String> {
-        if let Some(number) = NUMBERS.into_iter().find(|&number| !self.numbers[number]) {
-            return Err(format!("no call at random was refused with {number}"));
-        }
-        if let Some(number) = NUMBERS_OF_MOVE.into_iter().find(|&number| !self.numbers_of_move[number]) {
-            return Err(format!("no move at random was answered with {number}"));
-        }
-        for (what, rounded) in [("length", &self.lengths), ("depth", &self.depths)] {
-            if !(rounded.up && rounded.down) {
-                return Err(format!("at random no third interval of {what} was rounded up, or none down"));
-            }
-        }
-        Ok(())
-    }
-}
-
-/// Makes calls at random; an error where answers differ, or where a number of refusal or a rounding either way didn't occur.
+/// Makes calls at random; an error where answers differ, or where something that has to occur didn't.
 pub fn check() -> Result<(), String> {
     let sheets = [1, 2].into_iter().flat_map(|form| [0, 2, 30, PLACES].map(|count| sheet_of(count, form)));
     let starts: Vec<Desks> = sheets.collect::<Result<_, _>>()?;
@@ -114,27 +66,45 @@ impl Survey<'_> {
         }
         let call = match self.dice.below(100) {
             0 => self.opening(),
-            1..=47 => self.entry(),
+            1..=41 => self.entry(),
+            42..=47 => self.part_of_gross(),
             48..=57 => self.tank(),
             58..=59 => self.question(),
-            60..=74 => calls::mark(self.id(), self.dice.below(5) as u8),
+            60..=74 => calls::mark(self.id(), self.dice.below(6) as u8),
             75..=84 => calls::withdraw(self.id()),
             85..=90 => calls::undo(),
             91..=95 => calls::redo(),
-            _ => calls::report(self.dice.below(3) as u8),
+            _ => return self.report(),
         };
         self.make(&*call).map(drop)
     }
 
     fn make(&mut self, call: &dyn Call) -> Result<Seen, String> {
         let seen = call.make(&mut self.desks)?;
-        self.occurred.note(&seen);
+        self.occurred.note(call.name(), &seen);
         Ok(seen)
     }
 
     fn opening(&mut self) -> Box<dyn Call> {
         let length = self.dice.one_of(&[99, 100, 100, 4_500, 150_000]);
         calls::open(length, self.dice.one_of(&[0, 0, 1, 1_042, u32::MAX]))
+    }
+
+    /// Reports, and notes the class of the machinery if there is any.
+    fn report(&mut self) -> Result<(), String> {
+        let report = calls::report(self.dice.below(3) as u8);
+        let Seen { number, values: [gross, ..], .. } = self.make(&*report)?;
+        let machinery = self.machinery();
+        if number == 0 && machinery != 0 {
+            self.occurred.note_class(machinery, gross);
+        }
+        Ok(())
+    }
+
+    /// The tonnage of all machinery rooms.
+    fn machinery(&self) -> u64 {
+        let rooms = self.desks.in_place.sheet.standing().iter().filter(|space| space.standing as u8 == MACHINERY);
+        rooms.map(|room| u64::from(room.tonnage)).sum()
     }
 
     /// Writes the sheet at some place, and reads it back from there or from where it was moved, mostly with a bit of it changed. The sheet
@@ -151,7 +121,7 @@ impl Survey<'_> {
         }
         let before = self.desks.clone();
         if !self.dice.one_in(4) {
-            self.change_a_bit(end, end - at);
+            self.change_a_bit(end, form);
         }
         let end = if self.dice.one_in(2) { self.moved(end)? } else { end };
         self.make(&*calls::read(end))?;
@@ -161,15 +131,24 @@ impl Survey<'_> {
         Ok(())
     }
 
-    /// Of the last sheet before an end, which has so many bytes: often in its trailer, and there often the mark, or what tells the two forms
-    /// apart.
-    fn change_a_bit(&mut self, end: usize, size: usize) {
+    /// Of the last sheet before an end, in a form: half the time the mark, what tells the two forms apart, or what makes the greatest room
+    /// machinery if it is plain; else often in its trailer.
+    fn change_a_bit(&mut self, end: usize, form: u8) {
+        let standing = self.standing_of_greatest(form);
         let (from_end, bit) = match self.dice.below(4) {
-            0 => self.dice.one_of(&[(MARK, 0), (BYTE_OF_FORM, 1)]),
-            1 => (self.dice.below(28) as usize, self.dice.below(8)),
-            _ => (self.dice.below(size as u64) as usize, self.dice.below(8)),
+            0 | 1 => self.dice.one_of(&[(MARK, 0), (BYTE_OF_FORM, 1), (standing, 2)]),
+            2 => (self.dice.below(28) as usize, self.dice.below(8)),
+            _ => (self.dice.below(self.size(form) as u64) as usize, self.dice.below(8)),
         };
         self.desks.buffers().into_iter().for_each(|buffer| buffer[end - 1 - from_end] ^= 1 << bit);
+    }
+
+    /// The standing of the greatest room, the sixth byte of its record in a form, counted from the sheet's last byte, from 0; where there
+    /// is no room, the mark.
+    fn standing_of_greatest(&self, form: u8) -> usize {
+        let from_last = self.desks.in_place.sheet.standing().iter().rev().zip(1..);
+        let greatest = from_last.filter(|(space, _)| space.kind as u8 == ROOM).max_by_key(|(room, _)| room.tonnage);
+        greatest.map_or(MARK, |(_, count)| size_of_sheet(count, form) - 6)
     }
 
     /// Moves the last sheet before an end behind that, and says where it ends now: refused, there still. The place is mostly near; or the
@@ -183,7 +162,6 @@ impl Survey<'_> {
             _ => self.dice.below(100) as usize,
         };
         let seen = self.make(&*calls::move_last(end, form, at))?;
-        self.occurred.numbers_of_move[usize::from(seen.number)] = true;
         Ok(if seen.number == 0 { end + at + seen.values[0] as usize } else { end })
     }
 
@@ -210,14 +188,22 @@ impl Survey<'_> {
         }
     }
 
+    /// One to enter, mostly one that doesn't stand.
+    fn new_id(&mut self) -> u16 {
+        match self.dice.below(20) {
+            0 => self.id(),
+            _ => 1 + self.dice.below(9_999) as u16,
+        }
+    }
+
     /// An entry, mostly of a kind and with measures that the rules take.
     fn entry(&mut self) -> Box<dyn Call> {
         let tonnage_length = self.desks.in_place.sheet.tonnage_length();
         let entry = Entry {
-            id: if self.dice.one_in(20) { self.id() } else { 1 + self.dice.below(9_999) as u16 },
+            id: self.new_id(),
             within: self.id(),
             kind: self.dice.one_of(&[0, 1, 1, 2, 3, 4, 5, 5, 5, 5, 5, 5, 5, 6]),
-            standing: self.dice.one_of(&[0, 0, 0, 0, 0, 1, 1, 2, 2, 3, 4]),
+            standing: self.dice.one_of(&[0, 0, 0, 0, 0, 1, 1, 2, 2, 3, 4, 5]),
             fore_end: self.end_of_under_deck(),
             aft_end: self.end_of_under_deck(),
             deck: self.deck(),
@@ -241,6 +227,24 @@ impl Survey<'_> {
             _ => {}
         }
         calls::enter(entry, heights, breadths)
+    }
+
+    /// A room in the first U: any part of the gross, or one at which the rules turn, 13%, 20% or four sevenths, of which 1.75 times are all
+    /// the gross; half the time a hundredth more. It is 10 ft broad and high, so that it has a hundredth of a ton for each of a foot.
+    fn part_of_gross(&mut self) -> Box<dyn Call> {
+        let percents = self.dice.below(101);
+        let (part, parts) = self.dice.one_of(&[(percents, 100), (13, 100), (20, 100), (4, 7)]);
+        let gross = self.desks.in_place.sheet.report(1).map_or(100, |report| report.gross);
+        let room = Entry {
+            id: self.new_id(),
+            within: self.under_deck().map_or(1, |space| space.id),
+            kind: ROOM,
+            standing: self.dice.one_of(&[0, 2, 3, 4]),
+            deck: self.deck(),
+            length: (part * gross / parts + self.dice.below(2)) as u32,
+            ..Entry::default()
+        };
+        calls::enter(room, vec![1_000], vec![1_000])
     }
 
     /// One at which the rules turn, or any up to 50 ft, since round ones are seldom rounded up.
@@ -276,17 +280,21 @@ impl Survey<'_> {
         }
     }
 
+    /// The first U that stands.
+    fn under_deck(&self) -> Option<&Space> {
+        self.desks.in_place.sheet.standing().iter().find(|space| space.kind as u8 == UNDER_DECK)
+    }
+
     /// A tank, mostly in a U that stands, and with the sections that the rules ask.
     fn tank(&mut self) -> Box<dyn Call> {
-        let sheet = &self.desks.in_place.sheet;
-        let tonnage_length = sheet.tonnage_length();
-        let under_deck = sheet.standing().iter().find(|space| space.kind as u8 == UNDER_DECK);
+        let tonnage_length = self.desks.in_place.sheet.tonnage_length();
+        let under_deck = self.under_deck();
         let (within, whole, m) = under_deck.map_or((1, 4_000, 4), |space| (space.id, space.length, space.m()));
         let [length, fore] = self.ends(tonnage_length, whole);
         let tank = Tank {
-            id: if self.dice.one_in(20) { self.id() } else { 1 + self.dice.below(9_999) as u16 },
+            id: self.new_id(),
             within: if self.dice.one_in(10) { self.id() } else { within },
-            standing: self.dice.one_of(&[0, 0, 0, 1, 2, 3, 4]),
+            standing: self.dice.one_of(&[0, 0, 0, 1, 2, 3, 4, 5]),
             deck: self.deck(),
             length,
             fore,

@@ -12,7 +12,7 @@
  *
  * Lengths, heights, depths and breadths are in hundredths of a foot, tonnages in hundredths of a ton.
  * Kinds: 1 U under-deck part, 2 B between-deck level, 3 S superstructure, 4 H hatchway, 5 R room.
- * Standings: 0 plain, 1 exempt, 2 exempt as water ballast, 3 deducted.
+ * Standings: 0 plain, 1 exempt, 2 exempt as water ballast, 3 deducted, 4 machinery.
  * Ends of a U: 1 inner (at a step), 2 upright, 3 pointed.
  * Decks: 0 to 99, 0 for none. Vessel numbers: any, 0 for none.
  * Forms of a sheet in a file: 1 has 16 bytes a space and 28 behind them; 2 has 20 and 32, with the decks and the vessel number.
@@ -23,7 +23,7 @@
  * form 1 the same way the bytes come back.
  *
  * An answer's number is 0 where the call was accepted, else the lowest that applies; but in reading it is the first of 16, 17, 13, 14,
- * 18 in that order, in a write 20 stands before 15, and in a move it is 2, then those of reading in their order, then 20, then 15:
+ * 21, 18 in that order, in a write 20 stands before 15, and in a move it is 2, then those of reading in their order, then 20, then 15:
  *
  * | No. | Refused when |
  * |---|---|
@@ -47,6 +47,7 @@
  * | 18 | gross or net isn't what the records give |
  * | 19 | a pointed end of a U has area |
  * | 20 | a write or move in form 1 would lose a deck or the vessel number |
+ * | 21 | deductions pass gross: those of rooms and the one for machinery together |
  * | 29 | a tank in a U that has no m: one read from a file; enter the U anew |
  */
 #ifndef FUMMIDRAKE_H
@@ -364,7 +365,7 @@ fummidrake_changed fummidrake_redo(fummidrake_sheet sheet);
 FUMMIDRAKE_MUST_USE
 fummidrake_counted fummidrake_counts(fummidrake_sheet sheet);
 
-/* Gives gross and net; `justified` is 1 where the surveyor justifies the water ballast, else 0. Refused with 1, 2, 13, 14. */
+/* Gives gross and net; `justified` is 1 where the surveyor justifies the water ballast, else 0. Refused with 1, 2, 13, 14, 21. */
 FUMMIDRAKE_MUST_USE
 fummidrake_reported fummidrake_report(fummidrake_sheet sheet, uint8_t justified);
 
@@ -407,14 +408,14 @@ FUMMIDRAKE_MUST_USE
 size_t fummidrake_section_station(uint32_t tonnage_length, uint32_t under_deck, uint32_t length, uint32_t fore, size_t section);
 
 /* Writes the sheet with its justified mark into a buffer, from the byte `at` on, in a form: in form 1 16 bytes a space and 28 behind
- * them, in form 2 20 and 32. No byte before or after is touched, and none where refused, with 1, 2, 13, 14, 20, 15. */
+ * them, in form 2 20 and 32. No byte before or after is touched, and none where refused, with 1, 2, 13, 14, 20, 15, 21. */
 FUMMIDRAKE_MUST_USE
 fummidrake_written fummidrake_write(fummidrake_sheet sheet, uint8_t justified, uint8_t form, uint8_t *buf, size_t buf_bytes,
                                     size_t at);
 
 /* Reads the last sheet of a file, which may be any bytes; the bytes ahead of its start are the earlier sheets, read the same way.
  * Either form is read, and answered; a sheet in form 1 has no decks and no vessel number. Refused, with a sheet not open, mark 0,
- * start 0 and form 0, with 16, 17, 13, 14, 18. */
+ * start 0 and form 0, with 16, 17, 13, 14, 21, 18. */
 FUMMIDRAKE_MUST_USE
 fummidrake_reading fummidrake_read(const uint8_t *file, size_t file_bytes);
 
@@ -424,7 +425,7 @@ fummidrake_reading fummidrake_read_before(const uint8_t *file, size_t file_bytes
 
 /* Moves the last sheet of the file `from`, with its mark, into the buffer `to`, from the byte `at` on, in a form, which may be the one
  * it has. It takes no sheet, and the two must not overlap. No byte before or after is touched, and none where refused, with 2, 16, 17,
- * 13, 14, 18, 20, 15. */
+ * 13, 14, 21, 18, 20, 15. */
 FUMMIDRAKE_MUST_USE
 fummidrake_moved fummidrake_move_last(const uint8_t *from, size_t from_bytes, uint8_t form, uint8_t *to, size_t to_bytes, size_t at);
 

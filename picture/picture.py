@@ -17,6 +17,7 @@ STANDINGS = {
     "1": ("exempt", "#cfe3c8"),
     "2": ("water ballast", "#bcd7ee"),
     "3": ("deducted", "#f3d3a8"),
+    "4": ("machinery", "#dcc8e6"),
 }
 LINE = "#3b3a36"
 
@@ -67,7 +68,7 @@ def space(x: int, y: int, words: list[str], listed: list[list[str]]) -> Drawn:
 
 
 def legend(x: int, y: int) -> Iterator[str]:
-    """The four standings, each with its colour."""
+    """The standings, each with its colour."""
     for named, colour in STANDINGS.values():
         yield box(x, y, 16, 16, colour)
         yield text(x + 24, y + 13, named)

@@ -9,7 +9,7 @@ from picture.picture import NAMES, STANDINGS, picture
 SVG = "{http://www.w3.org/2000/svg}"
 # A chain of eight, and nine rooms in the first: more than stand side by side.
 DEEP = "LENGTH 48.00\n1 0 U 0 115.21\n" + "".join(f"{n} {n - 1} R 0 1.00\n" for n in range(2, 9))
-WIDE = DEEP + "".join(f"{n} 1 R {n % 4} 1.00\n" for n in range(9, 18)) + "GROSS 1.00\nNET 1.00\n"
+WIDE = DEEP + "".join(f"{n} 1 R {n % 5} 1.00\n" for n in range(9, 18)) + "GROSS 1.00\nNET 1.00\n"
 
 
 def boxes(drawn: str) -> dict[str, tuple[int, int, int, int]]:
@@ -53,6 +53,28 @@ class Picture(unittest.TestCase):
         for named, colour in STANDINGS.values():
             self.assertIn(f">{named}<", drawn)
             self.assertIn(colour, drawn)
+
+    def test_machinery(self) -> None:
+        """A box of its own colour in its U, with its words; the same colour and words in the legend."""
+        listing = dayfile.listing(files.with_machinery(dayfile.FORM_1, 200, 7))
+        self.drawn(listing)
+        parts = list(ElementTree.fromstring(picture(listing)))
+        named, colour = STANDINGS["4"]
+        self.assertEqual(named, "machinery")
+        words = [part.text for part in parts if part.tag == SVG + "text"]
+        self.assertIn("2.00 tons, machinery", words)
+        self.assertIn("Tonnage length 12.00 ft, gross 10.00 tons, net 6.43 tons", words)
+        filled = [(part.get("x"), part.get("width")) for part in parts if part.get("fill") == colour]
+        left, _, right, _ = boxes(picture(listing))["2"]
+        self.assertEqual(filled[0], (str(left), str(right - left)))
+        self.assertEqual([width for _, width in filled[1:]], ["16"])  # the legend's
+
+    def test_the_legend_is_inside_the_picture(self) -> None:
+        drawn = ElementTree.fromstring(picture(dayfile.listing(files.of_the_paper())))
+        ends = {part.text: int(part.get("x")) + 8 * len(part.text) for part in drawn if part.tag == SVG + "text"}
+        self.assertEqual(len({colour for _, colour in STANDINGS.values()}), len(STANDINGS))
+        for named, _ in STANDINGS.values():
+            self.assertLess(ends[named], int(drawn.get("width")))
 
     def test_a_refused_file_is_its_line(self) -> None:
         drawn = picture("REFUSED 17 3\n")

@@ -4,7 +4,8 @@ Quoted sentences are the paper's, those on the two forms and on moves the reques
 the last ends at the end of the file', so that a file is read from its end: the trailer says in which form the sheet is
 and where it starts, and the bytes ahead of that start are a file again, in whatever forms.
 Of the numbers that apply the lowest is given, 'except in reading: there 16, 17, 13, 14, 18 in that order'. In a write
-20 stands 'just before 15', and 'a move gives 2, then those of reading, then 20, then 15'.
+20 stands 'just before 15', and 'a move gives 2, then those of reading, then 20, then 15'. 21, the request T-06's, 'in
+reading ... stands after 14, in the other calls after 15'.
 """
 
 from itertools import takewhile
@@ -14,16 +15,18 @@ from typing import Iterator, NamedTuple, Sequence
 from reference import measure as m, sheet as s
 from reference.measure import ACCEPTED, B, H, KINDS, OUT_OF_RANGE, R, S, U
 from reference.sheet import (
-    LENGTHS_SHORT, NO_DECK, NO_VESSEL, NOT_ENCLOSED, NOT_JUSTIFIED, SHEET_NOT_OPEN, Sheet, Space,
+    DEDUCTIONS_PASS, LENGTHS_SHORT, NO_DECK, NO_VESSEL, NOT_ENCLOSED, NOT_JUSTIFIED, SHEET_NOT_OPEN, Sheet, Space,
 )
 
-# Numbers of refusal (1 to 14 stand in measure.py and sheet.py).
+# Numbers of refusal (1 to 14, and 21, stand in measure.py and sheet.py).
 TOO_LITTLE_ROOM = 15  # buffer has too little room from the named place
 WRONG_FILE = 16  # the file's size, or its trailer's distance, count, mark, zero byte or tonnage length
 WRONG_RECORD = 17  # with the position, from 1, of the first such record
 WRONG_SUMS = 18  # gross or net isn't what the records give
 WOULD_LOSE = 20  # a move or write in form 1 would lose a number
-ORDER_OF_WRITE = (SHEET_NOT_OPEN, OUT_OF_RANGE, LENGTHS_SHORT, NOT_JUSTIFIED, WOULD_LOSE, TOO_LITTLE_ROOM)
+ORDER_OF_WRITE = (
+    SHEET_NOT_OPEN, OUT_OF_RANGE, LENGTHS_SHORT, NOT_JUSTIFIED, WOULD_LOSE, TOO_LITTLE_ROOM, DEDUCTIONS_PASS,
+)
 
 GREATEST_TONNAGE = 100_000_000  # 'which no entry from offsets in range can pass'
 ZERO = 0  # what a zero field holds
@@ -332,6 +335,8 @@ def read(file: bytes) -> ReadAnswer:
         return refused(LENGTHS_SHORT)
     if s.not_justified(sheet, trailer.justified):
         return refused(NOT_JUSTIFIED)
+    if s.deductions_pass(sheet):
+        return refused(DEDUCTIONS_PASS)
     if wrong_sums(sheet, trailer):
         return refused(WRONG_SUMS)
     return ACCEPTED, 0, trailer.justified, last_start(file), last_form(file), sheet

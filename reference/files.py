@@ -17,8 +17,8 @@ from reference.dayfile import (
 from reference.figures import one_of
 from reference.measure import ACCEPTED, B, H, KINDS, R, S, U
 from reference.sheet import (
-    BALLAST, DEDUCTED, EXEMPT, JUSTIFIED, LENGTHS_SHORT, NO_DECK, NO_VESSEL, NOT_JUSTIFIED, NOT_MARKED, NOT_PLAIN,
-    PLAIN, PLACES, STANDINGS, Sheet, Space,
+    BALLAST, DEDUCTED, DEDUCTIONS_PASS, EXEMPT, JUSTIFIED, LENGTHS_SHORT, MACHINERY, NO_DECK, NO_VESSEL, NOT_JUSTIFIED,
+    NOT_MARKED, NOT_PLAIN, PLAIN, PLACES, STANDINGS, Sheet, Space,
 )
 
 
@@ -178,6 +178,15 @@ def some_records(rng: Random, count: int, length: int) -> list[Record]:
     return records
 
 
+def within_gross(records: Sequence[Record]) -> list[Record]:
+    """The records, but for as many machinery rooms that are plain as let deductions not pass gross."""
+    fitting = list(records)
+    for place, own in enumerate(records):
+        if own.standing == MACHINERY and s.deductions_pass(Sheet(spaces=tuple(map(space_of, fitting)))):
+            fitting[place] = own._replace(standing=PLAIN)
+    return fitting
+
+
 def decked(rng: Random, records: Iterable[Record]) -> list[Record]:
     """The records with decks by chance, often the greatest."""
     return [own._replace(deck=one_of(rng, (NO_DECK, 1, 99, 99, rng.randrange(100)))) for own in records]
@@ -189,7 +198,7 @@ def a_file(rng: Random, count: int, form: int = FORM_1) -> bytes:
     In form 2 it has decks, a vessel number, both or neither.
     """
     length = one_of(rng, (100, 150_000, 1200, 4800, rng.randint(100, 150_000)))
-    records, vessel = some_records(rng, count, length), NO_VESSEL
+    records, vessel = within_gross(some_records(rng, count, length)), NO_VESSEL
     not_needed = {"justified": JUSTIFIED} if rng.randrange(3) == 0 else {}
     if form == FORM_2:
         records = decked(rng, records) if rng.randrange(2) else records
@@ -221,7 +230,7 @@ def sheets_in_order(rng: Random) -> Cases:
     yield Case("200 U of the greatest tonnage", file_of(150_000, greatest), IN_ORDER)
     boxes = [record(id, 0, H, PLAIN, GREATEST_TONNAGE, 1) for id in range(2, PLACES + 1)]
     yield Case("199 hatchways of it", file_of(100, [record(1, 0, U, PLAIN, 0, 100), *boxes]), IN_ORDER)
-    for standing in STANDINGS:
+    for standing in (PLAIN, EXEMPT, BALLAST, DEDUCTED):
         rooms = [record(id, 1, R, standing, GREATEST_TONNAGE // 40, 150_000) for id in range(2, 42)]
         file = file_of(100, [record(1, 0, U, PLAIN, GREATEST_TONNAGE, 100), *rooms])
         yield Case(f"40 rooms of standing {standing} that fill it", file, IN_ORDER)
@@ -380,7 +389,7 @@ def at_places(records: Iterable[Tried], number: int, *places: tuple[int, int]) -
 def wrong_in_itself(kind: int) -> Iterator[Tried]:
     """'A nonzero zero field, a wrong kind, a number outside its range, a U, B, S or H with an enclosing id.'"""
     wrong = {
-        "zero": (1, 128, 256, 2**15, 257, 2**16 - 1), "kind": (0, 6, 7, 128, 255), "standing": (4, 128, 255),
+        "zero": (1, 128, 256, 2**15, 257, 2**16 - 1), "kind": (0, 6, 7, 128, 255), "standing": (5, 128, 255),
         "tonnage": (GREATEST_TONNAGE + 1, 2**31, 2**32 - 1), "length": (0, 150_001, 2**32 - 1),
         "id": (0, 10_000, 2**16 - 1),
     }
@@ -546,10 +555,10 @@ def wrong_sums(rng: Random) -> Cases:
 
 # Several at once
 
-ORDER = (WRONG_FILE, WRONG_RECORD, LENGTHS_SHORT, NOT_JUSTIFIED, WRONG_SUMS)
+ORDER = (WRONG_FILE, WRONG_RECORD, LENGTHS_SHORT, NOT_JUSTIFIED, DEDUCTIONS_PASS, WRONG_SUMS)
 
 FAULTS_OF_RECORD = {  # by the field, in a U, a room and a hatchway alike
-    "id": Faults((0, 10_000)), "within": Faults((9,), (256,)), "kind": Faults((0, 6)), "standing": Faults((4,), (255,)),
+    "id": Faults((0, 10_000)), "within": Faults((9,), (256,)), "kind": Faults((0, 6)), "standing": Faults((5,), (255,)),
     "zero": Faults((1, 256)), "tonnage": Faults((GREATEST_TONNAGE + 1,), (2**31,)), "length": Faults((0, 150_001)),
     "deck": Faults((100,), (256, 2**16 - 1)), "second_zero": Faults((1, 256), (2**16 - 1,)),
 }
@@ -564,9 +573,12 @@ def a_wrong_trailer(rng: Random, form: int, count: int) -> dict[str, int]:
 
 
 def with_faults(rng: Random, numbers: Sequence[int], form: int, vessel: int) -> tuple[bytes, int]:
-    """A sheet with a fault for each of these numbers, and the position of a wrong record."""
-    records, position = a_thousand(400, record(4, 0, H, PLAIN, 9, 9)), 0
-    wrong = {"justified": JUSTIFIED}
+    """A sheet with a fault for each of these numbers, and the position of a wrong record.
+
+    Its machinery of 300 has 525 deducted, which is all the gross with a ballast of 475, and one over with 476.
+    """
+    ballast, position = 476 if DEDUCTIONS_PASS in numbers else 475, 0
+    records, wrong = a_thousand(ballast, record(4, 2, R, MACHINERY, 300, 9)), {"justified": JUSTIFIED}
     if WRONG_RECORD in numbers:
         position, field = rng.randint(1, 4), rng.choice(fields_in(form))
         value = rng.choice(FAULTS_OF_RECORD[field].edges)
@@ -576,20 +588,107 @@ def with_faults(rng: Random, numbers: Sequence[int], form: int, vessel: int) -> 
     if NOT_JUSTIFIED in numbers:
         wrong["justified"] = NOT_MARKED
     if WRONG_SUMS in numbers:
-        wrong[rng.choice(("gross", "net"))] = one_of(rng, (0, 12_345, 2**64 - 1))
+        wrong[rng.choice(("gross", "net"))] = one_of(rng, (1, 12_345, 2**64 - 1))
     if WRONG_FILE in numbers:
         wrong |= a_wrong_trailer(rng, form, len(records))
     return file_of(FAULTS_LENGTH, records, form=form, vessel=vessel, **wrong), position
 
 
 def several_at_once(rng: Random) -> Cases:
-    """Every set of 16, 17, 13, 14 and 18 in one file of each form: the first of them in that order is given."""
+    """Every set of 16, 17, 13, 14, 21 and 18 in one file of each form: the first of them in that order is given."""
     for form, number, size in product(FORMS, range(3), range(len(ORDER) + 1)):
         for numbers in combinations(ORDER, size):
             file, position = with_faults(rng, numbers, form, one_of(rng, VESSELS))
             first = numbers[0] if numbers else ACCEPTED
             made_for = (first, position if first == WRONG_RECORD else 0)
-            yield Case(f"{numbers} at once in form {form}, {number}", file, made_for, again=number > 0)
+            yield Case(f"{numbers} at once in form {form}, {number}", file, made_for, again=number > 0 or size > 2)
+
+
+# Machinery
+
+# Of a gross of 1000: machinery at the edges of its classes and of their roundings; and in each class some, with what is
+# deducted beside it where nothing is left of the gross.
+SOME_MACHINERY = (0, 1, 12, 130, 131, 199, 200, 202, 571)
+ALL_DEDUCTED = ((100, 754), (130, 680), (150, 680), (200, 650), (400, 300), (571, 1))
+
+
+def with_machinery(form: int, machinery: int, deducted: int = 0, **wrong: int) -> bytes:
+    """The file of a U of 1000 with a machinery room and a deducted one, but for what is said of its trailer."""
+    records = [
+        record(1, 0, U, PLAIN, 1_000, FAULTS_LENGTH), record(2, 1, R, MACHINERY, machinery, 10),
+        record(3, 1, R, DEDUCTED, deducted, 10),
+    ]
+    return file_of(FAULTS_LENGTH, records, form=form, **wrong)
+
+
+def edges_of_classes(gross: int) -> tuple[int, ...]:
+    """The greatest machinery that is 13% of the gross or less, the greatest under 20%, and the one behind each."""
+    of_small, of_middle = 13 * gross // 100, -(-gross // 5) - 1
+    return of_small, of_small + 1, of_middle, of_middle + 1
+
+
+def any_machinery(rng: Random, form: int) -> bytes:
+    """A sheet whose machinery is any part of the gross, often at an edge of its classes or so that nothing is left.
+
+    What is deducted beside it is any part of the rest, often just all of the gross or one over.
+    """
+    tonnage, hatchways = rng.randint(1, one_of(rng, (40, 400, 9_999))), one_of(rng, (0, rng.randrange(99)))
+    gross = tonnage + m.hatchway_excess(tonnage, hatchways)
+    edges = *edges_of_classes(gross), gross * 4 // 7, gross * 4 // 7 + 1, rng.randint(0, tonnage)
+    machinery = min(max(one_of(rng, edges), 0), tonnage)
+    left = max(gross - m.engine_room_deduction(machinery, gross), 0)
+    deducted = min(one_of(rng, (0, left, left + 1, rng.randint(0, tonnage))), tonnage - machinery)
+    return file_of(FAULTS_LENGTH, [
+        record(1, 0, U, PLAIN, tonnage, FAULTS_LENGTH), record(2, 0, H, PLAIN, hatchways, 10),
+        record(3, 1, R, MACHINERY, machinery, 10), record(4, 1, R, DEDUCTED, deducted, 10),
+    ], form=form)
+
+
+def wrong_nets(machinery: int) -> list[int]:
+    """What would be left of a gross of 1000 by the rules of other classes, with nothing or the room itself deducted."""
+    deductions = m.deduction_of_small(machinery), m.deduction_of_middle(1_000), machinery * 7 // 4, 0, machinery
+    right = m.engine_room_deduction(machinery, 1_000)
+    return list(dict.fromkeys(1_000 - deduction for deduction in deductions if right != deduction <= 1_000))
+
+
+def machinery_in_files(rng: Random) -> Cases:
+    """Machinery at the edges of its classes, in each form; 18 by the net that another rule than its own would give."""
+    for form, machinery in product(FORMS, SOME_MACHINERY):
+        name = f"machinery {machinery} of 1000 in form {form}"
+        yield Case(name, with_machinery(form, machinery), IN_ORDER)
+        for number, net in enumerate(wrong_nets(machinery)):
+            file = with_machinery(form, machinery, net=net)
+            yield Case(f"{name}, net {net}", file, (WRONG_SUMS, 0), again=form == FORM_2 or number > 1)
+
+
+def deductions_over_gross(rng: Random) -> Cases:
+    """21: 'when deductions pass gross', by one, in each class and form; just all of it deducted is in order.
+
+    A net of 0 and one that is below it, as 8 bytes would have that, don't matter.
+    """
+    for form, (machinery, deducted) in product(FORMS, ALL_DEDUCTED):
+        name, over = f"{machinery} and {deducted} of 1000 in form {form}", (DEDUCTIONS_PASS, 0)
+        yield Case(f"{name}, all deducted", with_machinery(form, machinery, deducted), IN_ORDER)
+        yield Case(f"{name}, one over", with_machinery(form, machinery, deducted + 1), over)
+        wrapped = with_machinery(form, machinery, deducted + 1, net=2**64 - 1)
+        yield Case(f"{name}, one over and a net below 0", wrapped, over, again=machinery != 150)
+    for tonnage, made_for in ((57_142_857, IN_ORDER), (57_142_858, (DEDUCTIONS_PASS, 0))):
+        hull = [record(id, 0, U, PLAIN, GREATEST_TONNAGE, 1500) for id in range(1, 101)]
+        rooms = [record(100 + id, id, R, MACHINERY, tonnage, 10) for id in range(1, 101)]
+        yield Case(f"100 rooms of machinery of {tonnage}", file_of(150_000, [*hull, *rooms]), made_for)
+
+
+def machinery_twice(rng: Random) -> Cases:
+    """17: machinery in a room that isn't plain, or the other way round, with a plain one between them or none."""
+    for form, (upper, lower), between in product(FORMS, product(NOT_PLAIN, repeat=2), (0, 1)):
+        if MACHINERY in (upper, lower):
+            records = [
+                *filled(1), record(2, 1, R, upper, 5, 9), *[record(3, 2, R, PLAIN, 5, 9)] * between,
+                record(9, 2 + between, R, lower, 5, 9),
+            ]
+            name = f"{lower} in {upper}, {between} between, in form {form}"
+            again = form == FORM_2 or between > 0
+            yield Case(name, file_of(ONES_LENGTH, records, form=form), (WRONG_RECORD, len(records)), again)
 
 
 # Sections of chance
@@ -642,7 +741,7 @@ def flips(rng: Random) -> Cases:
 def an_edge(rng: Random, records: Sequence[Record], field: str) -> int:
     """A number for a field of a record: one at an edge, or one that the other records know."""
     edges = {
-        "id": (0, 1, 9_999, 10_000), "within": (0, 1, 9_999), "kind": range(7), "standing": range(5),
+        "id": (0, 1, 9_999, 10_000), "within": (0, 1, 9_999), "kind": range(7), "standing": range(6),
         "zero": (0, 1, 256), "tonnage": (0, 1, GREATEST_TONNAGE, GREATEST_TONNAGE + 1),
         "length": (0, 1, 99, 100, 150_000, 150_001), "deck": (0, 1, 99, 100, 256), "second_zero": (0, 0, 0, 1, 256),
     }
@@ -662,6 +761,12 @@ def touched(rng: Random) -> Cases:
                 records[place] = records[place]._replace(**{field: an_edge(rng, records, field)})
             file = file_of(length, records, form=form, vessel=one_of(rng, VESSELS))
             yield Case(f"touched sheet of form {form}, {number}", file)
+
+
+def machinery_by_chance(rng: Random) -> Cases:
+    """Sheets with any machinery, a hatchway and any deducted room."""
+    for form, number in product(FORMS, range(150)):
+        yield Case(f"any machinery in form {form}, {number}", any_machinery(rng, form))
 
 
 def moved(rng: Random) -> Cases:
@@ -778,6 +883,9 @@ def fields_of_forms(rng: Random) -> Cases:
             for value, far in FAULTS_OF_RECORD[field].told_apart():
                 file = three_with(form, position, **{field: value})
                 yield Case(f"{field} {value} at {position} in form {form}", file, (WRONG_RECORD, position), again=far)
+        for position, made_for in ((1, (WRONG_RECORD, 1)), (2, IN_ORDER), (3, (WRONG_RECORD, 3))):
+            file = three_with(form, position, standing=MACHINERY)
+            yield Case(f"machinery at {position} in form {form}", file, made_for)
         yield Case(f"U of 99 in form {form}", three_with(form, 1, length=99), (WRONG_RECORD, 1))
         for length, made_for in ((99, (WRONG_RECORD, 3)), (100, IN_ORDER)):
             yield Case(f"B of {length} in form {form}", three_with(form, 3, kind=B, length=length), made_for)
@@ -816,11 +924,11 @@ def decks_in_files(rng: Random) -> Cases:
     """17: 'for such a deck in a file', beside other causes in the same record and in others; at the 200th too."""
     for deck in (100, 101, 127, 128, 255, 257, 355, 2**15, 2**16 - 256):
         yield Case(f"deck {deck}", three_with(FORM_2, 2, deck=deck), (WRONG_RECORD, 2))
-    for field, value in (("id", 1), ("kind", 0), ("zero", 1), ("second_zero", 1), ("standing", 4), ("within", 3)):
+    for field, value in (("id", 1), ("kind", 0), ("zero", 1), ("second_zero", 1), ("standing", 5), ("within", 3)):
         file = three_with(FORM_2, 2, deck=100, **{field: value})
         yield Case(f"deck 100 with {field} {value}", file, (WRONG_RECORD, 2))
     for first, second in combinations(range(3), 2):
-        for one, other in product(({"deck": 100}, {"second_zero": 1}, {"id": 0}, {"standing": 4}), repeat=2):
+        for one, other in product(({"deck": 100}, {"second_zero": 1}, {"id": 0}, {"standing": 5}), repeat=2):
             records = [*THREE]
             for place, fields in ((first, one), (second, other)):
                 records[place] = records[place]._replace(**fields)
@@ -839,14 +947,15 @@ def decks_in_files(rng: Random) -> Cases:
 def refused_alone(form: int) -> Iterator[tuple[bytes, tuple[int, int]]]:
     """A sheet of a U alone, refused with each of reading's numbers, 16 also by the other form's telling byte.
 
-    For 14 it has a room of ballast.
+    For 14 it has a room of ballast, for 21 one of machinery.
     """
     [own] = filled(1)
     yield from ((of_one(form, telling=one), (WRONG_FILE, 0)) for one in (1, FORMS[OTHER[form]].telling))
     yield file_of(ONES_LENGTH, [own._replace(zero=1)], form=form), (WRONG_RECORD, 1)
     yield of_one(form, length=ONES_LENGTH + 1), (LENGTHS_SHORT, 0)
-    ballast = record(2, own.id, R, BALLAST, own.tonnage, 9)
-    yield file_of(ONES_LENGTH, [own, ballast], form=form, justified=NOT_MARKED), (NOT_JUSTIFIED, 0)
+    for standing, number in ((BALLAST, NOT_JUSTIFIED), (MACHINERY, DEDUCTIONS_PASS)):
+        filling = record(2, own.id, R, standing, own.tonnage, 9)
+        yield file_of(ONES_LENGTH, [own, filling], form=form, justified=NOT_MARKED), (number, 0)
     yield of_one(form, net=0), (WRONG_SUMS, 0)
 
 
@@ -887,9 +996,10 @@ def the_same_in_form_2(rng: Random) -> Cases:
 
 SECTIONS: tuple[Section, ...] = (
     sheets_in_order, days, bytes_ahead, wrong_files, counts_over_200, tonnage_lengths, wrong_records, records_let_in,
-    wrong_records_of_200, enclosed_later, wrong_twice, short_lengths, ballasts, wrong_sums, several_at_once, cuts,
-    flips, touched, moved, noise, forms_in_order, telling_bytes, sizes_of_forms, counts_of_forms, fields_of_forms,
-    refused_by_entry, decks_in_files, days_of_forms, the_same_in_form_2,
+    wrong_records_of_200, enclosed_later, wrong_twice, short_lengths, ballasts, wrong_sums, several_at_once,
+    machinery_in_files, deductions_over_gross, machinery_twice, cuts, flips, touched, machinery_by_chance, moved, noise,
+    forms_in_order, telling_bytes, sizes_of_forms, counts_of_forms, fields_of_forms, refused_by_entry, decks_in_files,
+    days_of_forms, the_same_in_form_2,
 )
 SEED = 69_117
 

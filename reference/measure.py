@@ -1,10 +1,11 @@
-"""The measuring rules of one space, and the hatchways and water ballast in the gross, with exact fractions.
+"""The measuring rules of one space, the hatchways and water ballast in the gross, and the engine room deduction, with
+exact fractions.
 
 Lengths, breadths, depths and heights are handed in as hundredths of a foot and tonnages as hundredths of a ton.
 Volumes are worked out in cubic feet, as exact fractions, and rounded once at the end.
 Paragraph numbers are those of 46 CFR part 69; where one reads "the paper", the rule stands only there. "The request" is
 T-01, tanks that follow the hull, or T-02, pointed bows, where it speaks of the ends of a U, or T-04, say what the
-rounding did, where it speaks of roundings.
+rounding did, where it speaks of roundings, or T-06, vessels with screws, where it speaks of machinery.
 """
 
 from fractions import Fraction
@@ -45,6 +46,12 @@ NOTHING_ROUNDED = (0, ())  # what an entry passes on where it is refused: of its
 
 HATCHWAY_SHARE = Fraction(1, 200)  # 69.115(c), one-half of one percent
 BALLAST_SHARE = Fraction(30, 100)  # 69.117(f)(4), 30%
+
+# The classes of 69.121(e)(2), vessels propelled by screw: by what share of the gross the machinery is, and what each
+# deducts.
+SMALL, MIDDLE, LARGE = "13 percent or less", "more than 13 but less than 20 percent", "20 percent or more"
+MOST_OF_SMALL, LEAST_OF_LARGE = Fraction(13, 100), Fraction(20, 100)
+TIMES_SMALL, SHARE_OF_GROSS, TIMES_LARGE = Fraction(32, 13), Fraction(32, 100), Fraction(175, 100)
 
 # Ranges (the paper, "Ranges"), all in hundredths of a foot. Hatchways and rooms have the same greatest measures.
 GREATEST_LENGTH, GREATEST_BREADTH, GREATEST_HEIGHT = 150_000, 30_000, 20_000
@@ -417,3 +424,35 @@ def hatchway_excess(g: int, hatchways: int) -> int:
 def ballast_over(ballast: int, gross: int) -> bool:
     """'If standing 2 adds up to more than 30% of it', compared exactly; gross has only standing 1 taken off."""
     return ballast > BALLAST_SHARE * gross
+
+
+# The engine room deduction: 69.121(e)(2) and the request. M is the machinery's tonnage.
+
+def class_of_machinery(machinery: int, gross: int) -> str:
+    """'13% of gross or less', 'over 13% and under 20%', or 'at 20% or more'; 'comparisons are exact'."""
+    if machinery <= MOST_OF_SMALL * gross:
+        return SMALL
+    return MIDDLE if machinery < LEAST_OF_LARGE * gross else LARGE
+
+
+def deduction_of_small(machinery: int) -> int:
+    """'32/13 of M', 'to the nearest hundredth'."""
+    return nearest(TIMES_SMALL * machinery)
+
+
+def deduction_of_middle(gross: int) -> int:
+    """'32% of gross', 'to the nearest hundredth'."""
+    return nearest(SHARE_OF_GROSS * gross)
+
+
+def deduction_of_large(machinery: int, gross: int) -> int:
+    """'The greater of 32% of gross and 1.75 times M', where 69.121(e)(2)(iii) lets the owner elect."""
+    return max(deduction_of_middle(gross), nearest(TIMES_LARGE * machinery))
+
+
+def engine_room_deduction(machinery: int, gross: int) -> int:
+    """What a vessel with a screw has deducted for its machinery, by its class."""
+    of_class = class_of_machinery(machinery, gross)
+    if of_class == SMALL:
+        return deduction_of_small(machinery)
+    return deduction_of_middle(gross) if of_class == MIDDLE else deduction_of_large(machinery, gross)

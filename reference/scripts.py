@@ -17,7 +17,7 @@ from reference import command_line, dayfile, figures, files, measure as m, sheet
 from reference.dayfile import FORM_1, FORM_2, FORMS
 from reference.figures import one_of, some, word
 from reference.measure import B, H, R, S, U
-from reference.sheet import BALLAST, DEDUCTED, EXEMPT, INNER, NOT_SAID, PLAIN, POINTED, UPRIGHT, Sheet
+from reference.sheet import BALLAST, DEDUCTED, EXEMPT, INNER, MACHINERY, NOT_SAID, PLAIN, POINTED, UPRIGHT, Sheet
 from reference.survey import GREATEST_SIZE, GREATEST_VESSEL, MOST_DIGITS, MOST_NUMBERS, Session, in_hex
 
 Lines = Iterator[str]
@@ -27,7 +27,8 @@ Ends = tuple[int, ...]  # words behind an entry's measures: two on its ends; non
 LOOK = ("counts", "spaces")
 LOOK_AND_REPORT = ("counts", "spaces", "report 0", "report 1")
 BEYOND_16 = (65_535, 65_536, 65_537, 2**64 - 1)  # ids above their type, one that would wrap to 1
-BEYOND_8 = (4, 255, 256, 257, 261, 2**16, 2**64 - 1)  # codes above their range or type, some that would wrap into it
+NO_STANDING = 5  # the least outside its range
+BEYOND_8 = (5, 255, 256, 257, 260, 2**16, 2**64 - 1)  # codes above their range or type, some that would wrap into it
 BEYOND_ENDS = (4, 255, 256, 257, 258, 259, 2**16 + 2, 2**64 - 1)  # ends likewise
 BEYOND_DECKS = (100, 101, 255, 256, 256 + 99, 2**16 + 1, 2**64 - 1)  # decks likewise
 BEYOND_FORMS = (0, 3, 4, 255, 256, 257, 258, 2**16 + 2, 2**32 + 1, 2**64 - 1)  # forms likewise
@@ -144,6 +145,9 @@ def a_thousand() -> Lines:
     yield divided(3, S, 1200, 300, 933, 1000)
 
 
+OF_THE_THOUSAND = {1: 360, 2: 360, 3: 280}  # the tonnages of its spaces
+
+
 def twenty_thousand() -> Lines:
     """U 1 and 2 of 9000 each and S 3 of 2000, on a tonnage length of 3000: T is 20000."""
     yield "open 3000"
@@ -158,8 +162,29 @@ def chain(outer: int, first: int, levels: int, tonnage: int) -> Lines:
     yield from (room(id, id - 1, tonnage) for id in range(first + 1, first + levels))
 
 
+def rooms_in(spaces: Sequence[int], tonnage: int, standing: int, first: int) -> tuple[str, ...]:
+    """The entries of rooms that have this tonnage together, in spaces of the thousand, each filled before the next."""
+    lines, left = [], tonnage
+    for id, within in enumerate(spaces, start=first):
+        own = min(left, OF_THE_THOUSAND[within])
+        lines, left = [*lines, room(id, within, own, standing)], left - own
+        if not left:
+            break
+    return tuple(lines)
+
+
+def machinery(tonnage: int) -> tuple[str, ...]:
+    """The entries of machinery rooms of this tonnage on the thousand: 4 in U 1 and, if it is more, 5 in U 2."""
+    return rooms_in((1, 2), tonnage, MACHINERY, 4)
+
+
+def deducted(tonnage: int) -> tuple[str, ...]:
+    """The entries of deducted rooms of this tonnage on the thousand: 6 in S 3 and, if it is more, in U 2 and U 1."""
+    return rooms_in((3, 2, 1), tonnage, DEDUCTED, 6)
+
+
 def conditions() -> Iterator[tuple[str, ...]]:
-    """Lines that leave a sheet in every condition of a report: not open, short, with ballast over, and in order."""
+    """Lines that leave a sheet in every condition of a report: not open, and with every set of 13, 14 and 21."""
     half = divided(1, U, 1200, 600, 1200, 500)
     yield ("open 99",)
     yield ("open 1200",)
@@ -167,6 +192,11 @@ def conditions() -> Iterator[tuple[str, ...]]:
     yield ("open 1200", half, room(4, 1, 300, BALLAST))
     yield (*a_thousand(), room(4, 1, 301, BALLAST))
     yield tuple(a_thousand())
+    # deductions that pass the gross by one: 1001 of 1000, 361 of 360, 252 of 251 and 700 of 699
+    yield (*a_thousand(), *machinery(572))
+    yield ("open 1200", half, room(4, 1, 206, MACHINERY))
+    yield ("open 1200", half, room(4, 1, 144, MACHINERY), room(5, 1, 109, BALLAST))
+    yield (*a_thousand(), *machinery(280), room(5, 2, 301, BALLAST), *deducted(210))
 
 
 def whole_sheet() -> Lines:
@@ -201,10 +231,10 @@ def not_open(rng: Random, session: Session) -> Lines:
     """Every call on a sheet not open, with arguments that would be accepted and with others."""
     yield "# Calls on a sheet not open"
     yield from ("counts", "spaces", "undo", "redo", "report 0", "report 1", "report 2", "report 256")
-    yield from (divided(1, U, 1200, 600, 1200, 500), hatchway(2, 10), room(3, 1, 5), room(0, 0, 5, 4))
+    yield from (divided(1, U, 1200, 600, 1200, 500), hatchway(2, 10), room(3, 1, 5), room(0, 0, 5, NO_STANDING))
     yield from (enter(1, 0, 9, 0, 0, [], []), enter(10_000, 0, H, 1, 2**32, [0], []))
-    yield from (withdraw(1), withdraw(0), mark(1, 0), mark(1, 4), mark(65_536, 256))
-    yield from (tank(2, 1, PLAIN, 300, 0, [9] * 3, [9] * 15), tank(0, 0, 4, 0, 2**32, [20_001], []))
+    yield from (withdraw(1), withdraw(0), mark(1, 0), mark(1, NO_STANDING), mark(65_536, 256))
+    yield from (tank(2, 1, PLAIN, 300, 0, [9] * 3, [9] * 15), tank(0, 0, NO_STANDING, 0, 2**32, [20_001], []))
     yield from (zones(4800, 4800, 4800, 0), zones(4800, 4800, 4800, 1), zones(99, 4800, 4800, 0))
     yield from LOOK
     yield "# A move takes no sheet"
@@ -272,7 +302,7 @@ def ballast(rng: Random, session: Session) -> Lines:
 
 
 def reports(rng: Random, session: Session) -> Lines:
-    """Every justified mark on a sheet in every condition: not open, short, with ballast over, and in order."""
+    """Every justified mark on a sheet in every condition."""
     yield "# Justified marks"
     for condition in conditions():
         yield from condition
@@ -290,11 +320,11 @@ def kinds_by_standings(rng: Random, session: Session) -> Lines:
     yield "open 1200"
     yield divided(1, U, 1200, 600, 1200, 500)
     for kind in (0, 1, 2, 3, 4, 5, 6, 255, 256, 261, 2**64 - 1):
-        for standing in (*s.STANDINGS, 4, 255, 256, 2**64 - 1) if kind in m.KINDS else (0, 1, 4):
+        for standing in (*s.STANDINGS, *BEYOND_8) if kind in m.KINDS else (0, 1, MACHINERY, NO_STANDING):
             yield from tried(session, enter(10, 1, kind, standing, *measures.get(kind, measures[R])))
     for kind in m.KINDS:
         yield enter(kind * 10, 1, kind, PLAIN, *measures[kind])
-        for standing in (*s.STANDINGS, 4, 255, 256, 2**64 - 1, PLAIN):
+        for standing in (*s.STANDINGS, *BEYOND_8, PLAIN):
             yield mark(kind * 10, standing)
         yield from LOOK
 
@@ -325,9 +355,9 @@ def all_at_once(rng: Random, session: Session) -> Lines:
             for id, wide, more in product((500, 21), (False, True), ([], [7])):
                 wrong = [*breadths[:-1], 30_001] if wide else breadths
                 yield from tried(session, enter(id, within, kind, standing, length, [*heights, *more], wrong))
-            yield enter(500, within, kind, 4, length, heights, breadths)
+            yield enter(500, within, kind, NO_STANDING, length, heights, breadths)
         yield from ("counts", "report 0")
-    yield from (mark(id, standing) for id in (1, 2, 3, 11, 14, 17, 21, 500, 0, 65_550) for standing in range(5))
+    yield from (mark(id, standing) for id in (1, 2, 3, 11, 14, 17, 21, 500, 0, 65_550) for standing in range(6))
     yield from LOOK
 
 
@@ -358,16 +388,15 @@ def ranges(rng: Random, session: Session) -> Lines:
             yield from tried(session, line)
     for one in BEYOND_8:
         yield from (room(7, 1, 1, one), mark(1, one), f"report {one}")
-        yield from tried(session, enter(7, 1, one, 0, 10, [500], [500]))  # 4 is the code of a hatchway
+        yield from tried(session, enter(7, 1, one, 0, 10, [500], [500]))  # 5 is the code of a room
     yield "# An enclosing id given for a U, B, S or H isn't read"
     for kind, length, heights, breadths in examples[:4]:
         for within in (1, 7, 9_998, 65_537, 2**64 - 1):
             yield from tried(session, enter(7, within, kind, 0, length, heights, breadths))
     yield "# Zeros in front, and lists as long as they may be"
-    yield from ("open 0001200", "enter 007 0 04 00 0010 0001000 01000", "report 00", "withdraw " + "0" * 5000 + "7")
-    for kind in (U, H):
-        yield enter(7, 7, kind, 0, 600, [9] * MOST_NUMBERS, [9])
-        yield enter(7, 7, kind, 0, 600, [9], [9] * MOST_NUMBERS)
+    yield from ("open 0001200", "enter 007 0 04 00 0010 0001000 01000", "report 00", "withdraw " + "0" * 500 + "7")
+    yield enter(7, 7, U, 0, 600, [9] * MOST_NUMBERS, [9])
+    yield enter(7, 7, H, 0, 600, [9], [9] * MOST_NUMBERS)
     yield from LOOK
 
 
@@ -475,7 +504,7 @@ def sixty_four(rng: Random, session: Session) -> Lines:
     yield from (mark(1, PLAIN) for _ in range(10))
     yield from (room(id, 1, id) for id in range(2, 22))
     yield from (withdraw(id) for id in range(20, 4, -2))
-    yield from (mark(id, id % 4) for id in (*range(3, 22, 2), 2, 4, *range(3, 16, 2)))
+    yield from (mark(id, id % 5) for id in (*range(3, 22, 2), 2, 4, *range(3, 16, 2)))
     yield from [mark(1, PLAIN)] * (64 - len(session.sheet.earlier))
     yield from ("counts", *["undo"] * 10, *LOOK, room(99, 1, 1), *LOOK, "redo", "counts")
     for _ in range(56):
@@ -493,13 +522,13 @@ def redo_after(rng: Random, session: Session) -> Lines:
     between = (
         "report 0", "report 1", "report 2", *LOOK, room(3, 1, 1), room(0, 1, 1), room(9, 8, 1),
         enter(9, 0, H, 0, 10, [0], [9]), enter(9, 0, H, 0, 10, [], []), enter(9, 0, H, 1, 10, [9], [9]),
-        room(9, 1, 9999), withdraw(77), mark(77, 0), mark(1, 1), mark(1, 4), "redo 1", "rdo", "enter 1", "open",
-        "open x",
+        room(9, 1, 9999), withdraw(77), mark(77, 0), mark(1, 1), mark(1, NO_STANDING), "redo 1", "rdo", "enter 1",
+        "open", "open x",
     )
-    for one in between:
-        yield from a_thousand()
-        yield from (room(4, 1, 50), mark(4, EXEMPT), "undo", "undo", one, "counts", "redo", one, "redo", "redo", *LOOK)
     yield from a_thousand()
+    for one in between:
+        yield from (room(4, 1, 50), mark(4, EXEMPT), "undo", "undo", one, "counts", "redo", one, "redo", "redo", *LOOK)
+        yield from ["undo"] * 2
     yield from ["undo"] * 4
     yield from (*LOOK, "redo", "redo", "redo", "redo", *LOOK)
     yield "# Not after a change, even one that shows nothing"
@@ -553,10 +582,10 @@ def not_plain(rng: Random, session: Session) -> Lines:
     yield from ("spaces", "undo", "undo", "redo")
     yield "# One not plain standing for another, and spaces beside one another"
     for id in (2, 5, 8, 20, 22):
-        yield from (mark(id, standing) for standing in (1, 2, 3, 3, 1, 1, 3, 2, 2, 1))
+        yield from (mark(id, standing) for standing in (1, 1, 2, 2, 3, 3, 4, 4, 1, 3, 1, 4, 2, 4, 3, 2, 1))
         yield from (*LOOK, mark(1, EXEMPT), mark(21, 3), mark(id, PLAIN), "report 0")
     yield from (mark(21, PLAIN), mark(20, PLAIN), mark(22, BALLAST), mark(5, EXEMPT), mark(21, DEDUCTED), *LOOK)
-    yield from (mark(id, standing) for id in (1, 2, 3, 4, 20, 6, 8) for standing in (1, 2, 3, 0))
+    yield from (mark(id, standing) for id in (1, 2, 3, 4, 20, 6, 8) for standing in (1, 2, 3, 4, 0))
     yield "# Entries below a space that isn't plain"
     for depth in range(1, 8):
         yield from ("open 1200", divided(1, S, 1200, 300, 933, 1000), *chain(1, 2, 6, 40))
@@ -691,8 +720,8 @@ ALWAYS_READ = (  # of the larger ones
 
 def one_in(case: files.Case) -> int:
     """Of so many generated files like this one is read: of the small ones made for a number each, if unlike others."""
-    of_size = 1 if len(case.file) <= SMALL_FILE else 32 if len(case.file) <= LARGER_FILE else 1000
-    return of_size * (10 if case.again else 1) * (60 if case.made_for is None else 1)
+    of_size = 1 if len(case.file) <= SMALL_FILE else 48 if len(case.file) <= LARGER_FILE else 1000
+    return of_size * (50 if case.again else 1) * (100 if case.made_for is None else 1)
 
 
 def generated_files(rng: Random, session: Session) -> Lines:
@@ -784,7 +813,7 @@ def tank_refusals(rng: Random, session: Session) -> Lines:
     right, wrong, over = ([9] * 3, [9] * 15), ([9] * 2, [9] * 15), ([1200] * 3, [500] * 15)
     measures = (  # standing, length, fore, depths and breadths: accepted; 3; 9 by an end; 3 and that; 9 by tonnage; 2
         (PLAIN, 300, 0, *right), (EXEMPT, 300, 0, *wrong), (DEDUCTED, 300, 301, *right), (PLAIN, 601, 0, [], []),
-        (EXEMPT, 600, 0, *over), (4, 300, 0, *right), (PLAIN, 300, 0, [9] * 3, [9] * 14 + [30_001]),
+        (EXEMPT, 600, 0, *over), (NO_STANDING, 300, 0, *right), (PLAIN, 300, 0, [9] * 3, [9] * 14 + [30_001]),
         (PLAIN, 300, 150_001, [9, 20_001], [9]),
     )
     for full in (False, True):
@@ -1138,7 +1167,7 @@ def pointed_refusals(rng: Random, session: Session) -> Lines:
         if full:
             yield from (room(id, 21) for id in range(1000, 1000 + s.PLACES - len(session.sheet.spaces)))
         for id, standing, length, measures in product(
-            (500, 21), (PLAIN, EXEMPT, 4), (600, 601), (WITH_AREA, WITHOUT_AREA, wrong, beyond)
+            (500, 21), (PLAIN, EXEMPT, NO_STANDING), (600, 601), (WITH_AREA, WITHOUT_AREA, wrong, beyond)
         ):
             yield from tried(session, enter(id, 0, U, standing, length, *measures, both))
         for length, measures, ends in product((600, 601), (WITH_AREA, WITHOUT_AREA), of_ends):
@@ -1280,8 +1309,9 @@ def not_rounded(rng: Random, session: Session) -> Lines:
     for first in ("open 99", "open 1300"):
         yield from (first, divided(1, U, 1300, 600, 1200, 500), hatchway(2, 20))
         for kind, length, heights, own in entries:
-            yield from (enter(9, 1, kind, 4, length, heights, own), enter(9, 1, kind, 0, length, heights, [*own, 7]))
-            yield from (enter(1, 1, kind, 0, length, heights, own), enter(9, 2, kind, DEDUCTED, length, heights, own))
+            yield enter(9, 1, kind, NO_STANDING, length, heights, own)
+            yield from (enter(9, 1, kind, 0, length, heights, [*own, 7]), enter(1, 1, kind, 0, length, heights, own))
+            yield enter(9, 2, kind, DEDUCTED, length, heights, own)
     yield "# Roundings: none where 2 is given by an end, or 19, 9, 5, 7 or 8"
     yield from (enter(9, 0, U, PLAIN, *NEVER_EXACT, ends) for ends in ((), (POINTED, INNER), (UPRIGHT, POINTED)))
     yield from (enter(9, 0, U, PLAIN, 701, depths, breadths), enter(9, 77, R, PLAIN, 601, [7], [7]))
@@ -1343,14 +1373,14 @@ def of_every_number() -> tuple[str, ...]:
     return (
         room(500, 1, 1),
         # 2 by other causes, 3 and 4
-        room(500, 1, 1, 4), enter(500, 1, R, PLAIN, 0, [9], [9]), enter(500, 0, H, PLAIN, 9, [20_001], [9]),
+        room(500, 1, 1, NO_STANDING), enter(500, 1, R, PLAIN, 0, [9], [9]), enter(500, 0, H, PLAIN, 9, [20_001], [9]),
         enter(500, 0, U, PLAIN, 600, *WITH_AREA, (UPRIGHT, NOT_SAID)), enter(500, 0, S, PLAIN, 300, three, [9] * 4),
         room(4, 1, 1), room(0, 1, 1),
         # 5, 6, 7, 8 and 9
         room(500, 77, 1), room(500, 4, 1), enter(500, 0, H, EXEMPT, 9, [9], [9]), room(500, 17),
         room(500, 14, 0, EXEMPT), room(500, 1, 9999), enter(500, 0, U, PLAIN, 600, *WITH_AREA, (UPRIGHT, INNER)),
         # tanks: accepted, 2, 3, 4, 5, 6, 9 and 29
-        tank(500, 1, PLAIN, 300, 0, three, fifteen), tank(500, 1, 4, 300, 0, three, fifteen),
+        tank(500, 1, PLAIN, 300, 0, three, fifteen), tank(500, 1, NO_STANDING, 300, 0, three, fifteen),
         tank(500, 1, PLAIN, 300, 150_001, three, fifteen), tank(500, 1, PLAIN, 300, 0, three, [9] * 14),
         tank(4, 1, PLAIN, 300, 0, three, fifteen), tank(500, 77, PLAIN, 300, 0, three, fifteen),
         tank(500, 3, PLAIN, 300, 0, three, fifteen), tank(500, 1, PLAIN, 300, 301, three, fifteen),
@@ -1438,17 +1468,17 @@ def sizes_of_both(session: Session) -> tuple[int, int]:
 def forms_of_writes(rng: Random, session: Session) -> Lines:
     """Every form on a sheet in every condition, with a vessel number and without, into buffers that fit and that don't.
 
-    The order is 1, 2, 13, 14, 20, 15.
+    The order is 1, 2, 13, 14, 20, 15, 21.
     """
     yield "# Forms of writes"
     for condition, vessel in product(conditions(), (0, 7)):
         yield from (*numbered(condition, vessel), "spaces")
         of_form_1, of_form_2 = sizes_of_both(session)
-        for form, justified in product(FORMS, (0, 1, 2)):
-            for size in (0, of_form_1 - 1, of_form_1, of_form_2 - 1, of_form_2):
-                yield write(justified, 0, size, form)
-        for form, justified in product(BEYOND_FORMS[:5], (0, 2)):
-            yield from (write(justified, 0, of_form_2, form), write(justified, 1, 0, form))
+        for justified in (0, 1, 2):
+            yield from (write(justified, 0, size, FORM_1) for size in (0, of_form_1 - 1, of_form_1))
+            yield from (write(justified, 0, size, FORM_2) for size in (of_form_1, of_form_2 - 1, of_form_2))
+        for form in BEYOND_FORMS[:5]:
+            yield from (write(0, 0, of_form_2, form), write(2, 1, 0, form))
     yield "# Forms above their type, and zeros in front"
     for vessel in (0, 7):
         yield from (*numbered(a_thousand(), vessel), *(write(0, 0, 92, form) for form in SOME_FORMS))
@@ -1536,13 +1566,13 @@ def days_of_both_forms(rng: Random, session: Session) -> Lines:
 # Sections of moves
 
 def moved_both_ways(file: bytes, at: int, more: int, fill: int) -> Lines:
-    """A file moved up and back, or back and up, if it can be, and in each form twice."""
+    """A file moved in its own form, and up and back, or back and up, if it can be."""
+    count, own = dayfile.last_trailer(file).count, dayfile.last_form(file)
     for form in FORMS:
-        count = dayfile.last_trailer(file).count
         size = dayfile.distance(form, count)
         yield move(file, form, at, at + size + more, fill)
         number, _, _, after = dayfile.move(file, form, bytes(size), 0)
-        if not number:
+        if form != own and not number:
             yield from (move(after, other, 0, dayfile.distance(other, count), fill) for other in FORMS)
 
 
@@ -1579,7 +1609,7 @@ def unreadable(form: int) -> tuple[bytes, ...]:
         files.of_three(form)[1:], files.of_three(form, telling=1),
         *(files.three_with(form, position, **{field: value}) for position, field, value in wrong_records[form]),
         files.of_three(form, length=1201), files.file_of(1200, files.a_thousand(301), form=form, justified=0),
-        files.of_three(form, net=0),
+        files.with_machinery(form, 572), files.of_three(form, net=0),
     )
 
 
@@ -1587,9 +1617,11 @@ def refused_moves(rng: Random, session: Session) -> Lines:
     """Moves refused with 2, with each of reading's numbers, with 20 and with 15, alone and together, in that order."""
     yield "# Moves refused with reading's numbers, with room and without, and with 2"
     yield from (*numbered(a_thousand(), 77), hatchway(4, 20, 6), "undo", *LOOK)
-    for file in (b"", *unreadable(FORM_1), *unreadable(FORM_2)):
+    for file in (b"", *unreadable(FORM_1)):
         yield from (move(file, FORM_1, 0, 0, 5), move(file, FORM_2, 1, 95, 170), "spaces")
         yield from (move(file, one_of(rng, BEYOND_FORMS), 0, 3, 1), "spaces")
+    for file in unreadable(FORM_2):
+        yield from (move(file, FORM_1, 1, 95, 170), move(file, FORM_2, 0, 0, 5), "spaces")
     yield "# Moves to which each of reading's numbers applies, or two that stand next to each other, and 20 and 15"
     neighbours = zip(files.ORDER, files.ORDER[1:])
     for numbers in (*((number,) for number in files.ORDER), *neighbours):
@@ -1623,6 +1655,110 @@ def refused_moves(rng: Random, session: Session) -> Lines:
     yield f"move {alone[FORM_2].hex()} 001 0001 00046 0255"
 
 
+# Sections of machinery
+
+def reported(lines: Sequence[str]) -> Lines:
+    """Changes that are accepted, a report of what they make, and all of them undone."""
+    yield from (*lines, "report 0", *["undo"] * len(lines))
+
+
+def machinery_figures(rng: Random, session: Session) -> Lines:
+    """Machinery at the edges of its classes, and where each rounding goes up, goes down, is exact or has a half."""
+    yield "# Machinery: of a gross of 1000"
+    yield from (*a_thousand(), "report 0")
+    for tonnage in (0, 1, 12, 13, 129, *files.edges_of_classes(1000), 182, 183, 201, 202, 203, 204, 570, 571):
+        yield from reported(machinery(tonnage))
+    yield "# Machinery: of a gross with hatchways, whose excess counts in it"
+    for of_hatchways in (5, 6, 16, 19, 105):  # the allowance is 5
+        yield hatchway(9, of_hatchways)
+        for tonnage in files.edges_of_classes(995 + of_hatchways):
+            yield from reported(machinery(tonnage))
+        yield "undo"
+    yield "# Machinery: of a gross from which something is exempt, and with something deducted, which stays in it"
+    for line, gross in ((mark(3, EXEMPT), 720), (room(9, 3, 280, BALLAST), 720), (room(9, 3, 100, DEDUCTED), 1000)):
+        yield line
+        for tonnage in files.edges_of_classes(gross):
+            yield from reported(machinery(tonnage))
+        yield "undo"
+    yield "# Machinery: of a small gross, of which 32% and 1.75 times the machinery can be rounded to one figure"
+    for breadth in (7, 14, 21, 28, 1, 0):
+        yield from ("open 1200", divided(1, U, 1200, 1200, 600, breadth))
+        gross = session.sheet.spaces[0].tonnage  # 5, 10, 15, 20, 1 and 0
+        for tonnage in sorted({0, *range(max(gross // 5 - 1, 0), min(gross // 5 + 3, gross + 1))}):
+            yield from reported([room(2, 1, tonnage, MACHINERY)])
+        yield from (hatchway(3, 1), *reported([room(2, 1, 0, MACHINERY)]))
+
+
+def machinery_and_ballast(rng: Random, session: Session) -> Lines:
+    """Ballast at 30% and over it beside machinery of each class; the one room marked as the other, and as deducted."""
+    yield "# Machinery beside ballast of 300 and 301, 30% of 1000 being 300"
+    both = "report 0", "report 1"
+    yield from a_thousand()
+    for tonnage, of_ballast in product((0, 91, 92, 139, 140, 342), (300, 301)):
+        yield from (room(8, 2, of_ballast, BALLAST), *machinery(tonnage), *both, mark(4, BALLAST), *both)
+        yield from (mark(4, DEDUCTED), *both, mark(8, MACHINERY), *both, *["undo"] * 5)
+
+
+def deductions_over(rng: Random, session: Session) -> Lines:
+    """Deductions one under the gross, just as large and one over, in each class, by machinery alone and with others."""
+    yield "# Deductions up to the gross, and over it: 21"
+    yield from a_thousand()
+    for tonnage, others in files.ALL_DEDUCTED:
+        for by in (-1, 0, 1):
+            yield from reported((*machinery(tonnage), *deducted(others + by)))
+    for tonnage in (571, 572, 573, 640):
+        yield from reported(machinery(tonnage))
+    yield "# 21 is gone with what is over, and comes again with it; what was undone can still be made again"
+    yield from (*machinery(571), *deducted(2), "report 0", "undo", "report 0", "redo", "report 0", mark(6, PLAIN))
+    yield from ("report 0", "undo", "report 0", write(0, 0, 124), "counts", "redo", "report 0", write(0, 0, 124))
+    yield from (mark(6, DEDUCTED), "report 0", hatchway(9, 6), "report 0", withdraw(9), "report 0", "undo", *LOOK)
+    yield from (withdraw(5), "report 0", "undo", mark(5, DEDUCTED), *LOOK_AND_REPORT, "undo", "report 1", "redo")
+
+
+def machinery_changed(rng: Random, session: Session) -> Lines:
+    """A room and a tank marked from every standing to machinery and back, undone and made again, each time reported."""
+    yield "# Machinery: marked from deducted and back, and from every other standing"
+    yield from (*a_thousand(), room(4, 1, 200, DEDUCTED), tank_of_a_thousand(5, 2, 300, 0, 600, 500, MACHINERY), *LOOK)
+    for id, standing in product((4, 5), (DEDUCTED, MACHINERY, PLAIN, MACHINERY, EXEMPT, MACHINERY, BALLAST)):
+        yield from (mark(id, standing), "report 0", "undo", "report 0", "redo", "report 0")
+    yield from (*LOOK, *["undo"] * 14, *LOOK_AND_REPORT, *["redo"] * 14, *LOOK_AND_REPORT)
+    yield "# Machinery: withdrawn, entered again, and tanks of it beside one another"
+    yield from (withdraw(5), "report 0", "undo", "report 0", "redo", room(5, 3, 200, MACHINERY), "report 0", *LOOK)
+    for id, length, standing in ((10, 300, MACHINERY), (11, 150, NO_STANDING), (11, 150, MACHINERY)):
+        yield from (tank_of_a_thousand(id, 2, length, 0, 1200, 500, standing), *LOOK_AND_REPORT)
+    yield from (*["undo"] * 3, *LOOK_AND_REPORT, *["redo"] * 3, *LOOK_AND_REPORT)
+
+
+def machinery_above_and_below(rng: Random, session: Session) -> Lines:
+    """8 by machinery above and below every standing that isn't plain, by marks and by entries, also in an exempt S."""
+    yield "# Machinery above and below what isn't plain"
+    yield from (*a_thousand(), *chain(3, 4, 3, 100), *LOOK)
+    for upper, lower in product(s.NOT_PLAIN, repeat=2):
+        if MACHINERY in (upper, lower):
+            yield from (mark(4, upper), mark(6, lower), mark(5, lower), room(7, 6, 1, lower), room(7, 4, 0, lower))
+            yield from (mark(4, PLAIN), mark(6, lower), mark(4, upper), mark(5, upper), "report 0", mark(6, PLAIN))
+    yield from (mark(6, MACHINERY), mark(3, EXEMPT), mark(6, PLAIN), mark(3, EXEMPT), mark(6, MACHINERY))
+    yield from (room(7, 3, 1, MACHINERY), room(7, 5, 1, MACHINERY), room(7, 3, 1), mark(7, MACHINERY), *LOOK_AND_REPORT)
+
+
+def machinery_and_files(rng: Random, session: Session) -> Lines:
+    """Machinery of each class written and read back, and moved, in both forms; reads and moves refused with 21."""
+    yield "# Machinery written, read back and changed"
+    for (tonnage, others), form in product(((130, 680), (131, 0), (571, 1)), FORMS):
+        yield from (*a_thousand(), *machinery(tonnage), *deducted(others), "report 0")
+        file = dayfile.bytes_of(form, session.sheet, s.NOT_MARKED)
+        yield from (write(0, 0, len(file), form), *read_and_looked_at(session, file))
+        yield from (mark(4, DEDUCTED), "report 0", "undo", "report 0", room(9, 3), write(0, 0, len(file), form))
+    yield "# Machinery moved both ways"
+    for form in FORMS:
+        yield from moved_both_ways(files.with_machinery(form, 200), 1, 2, 255)
+    yield "# Reads refused with 21 leave no sheet; moves refused with it leave the sheet and the buffer"
+    over = {form: files.with_machinery(form, 571, 2, net=net) for form, net in ((FORM_1, 0), (FORM_2, 2**64 - 1))}
+    for form, file in over.items():
+        yield from (*a_thousand(), move(file, form, 1, 99, 5), *LOOK, read(file), *LOOK_AND_REPORT, write(0, 0, 9))
+        yield from (before(len(file), file + over[FORM_1]), *LOOK, hatchway(1, 5), before(len(file) - 1, file), *LOOK)
+
+
 # Lines that are no calls, for each remark
 MALFORMED = (
     "", "#", "# open 1200", " ", " undo", "Undo", "UNDO", "undo\t", "undo\r", "open\t1200", "close", "reports 0", "0",
@@ -1637,7 +1773,7 @@ MALFORMED = (
     "enter 9 0 4 plain 10 5 5", "enter 9 0 4 0 ten 5 5", "enter 9 0 4 0 10 x 5", "enter 9 0 4 0 10 5 x",
     "enter 9 0 4 0 10 5, 5", "enter 9 0 4 0 10 ,5 5", "enter 9 0 4 0 10 5 5,,5", "enter 9 0 4 0 10 , 5",
     "enter 9 0 4 0 10 -- 5", "enter 9 0 4 0 10 5 -,5", "enter 9 0 4 0 10 5 5,-", "enter 9 0 4 0 10  5",
-    "open 18446744073709551616", "open 99999999999999999999", "open 100000000000000000000", "open 1" + "0" * 5000,
+    "open 18446744073709551616", "open 99999999999999999999", "open 100000000000000000000", "open 1" + "0" * 500,
     "report 18446744073709551616", "withdraw 018446744073709551616", "mark 18446744073709551616 0",
     "mark 1 18446744073709551616", "enter 18446744073709551616 0 4 0 10 5 5", "enter 9 18446744073709551616 4 0 10 5 5",
     "enter 9 0 18446744073709551616 0 10 5 5", "enter 9 0 4 18446744073709551616 10 5 5",
@@ -1715,9 +1851,9 @@ MALFORMED = (
 
 
 def malformed(rng: Random, session: Session) -> Lines:
-    """Lines that are no calls, on a sheet not open all but the longest, and on one that stands; they change nothing."""
+    """Lines that are no calls, on a sheet not open some of the shorter, and on one that stands; they change nothing."""
     yield "# Lines that are no calls"
-    yield from ("open 99", *(line for line in MALFORMED if len(line) < 1_100), *LOOK)
+    yield from ("open 99", *(line for line in MALFORMED[::3] if len(line) < 1_100), *LOOK)
     yield from (*a_thousand(), hatchway(5, 5), "undo", *MALFORMED, *LOOK_AND_REPORT, "redo", *LOOK)
     yield from ("read " + "x" * (MOST_DIGITS + 1), *LOOK)
 
@@ -1756,7 +1892,8 @@ def a_standing(rng: Random, kind: int) -> int:
         return one_of(rng, BEYOND_8)
     if rng.randrange(12) == 0:
         return one_of(rng, s.STANDINGS)
-    return {B: one_of(rng, (0, 0, 1)), S: one_of(rng, (0, 0, 1)), R: one_of(rng, (0, 0, 0, 1, 2, 2, 3))}.get(kind, 0)
+    of_room = one_of(rng, (0, 0, 0, 1, 2, 2, 3, 4, 4))
+    return {B: one_of(rng, (0, 0, 1)), S: one_of(rng, (0, 0, 1)), R: of_room}.get(kind, 0)
 
 
 def outer_of(rng: Random, sheet: Sheet) -> s.Space | None:
@@ -1768,6 +1905,11 @@ def outer_of(rng: Random, sheet: Sheet) -> s.Space | None:
         deepest = max(s.level(sheet.spaces, space) for space in outers)
         outers = [space for space in outers if s.level(sheet.spaces, space) == deepest]
     return one_of(rng, outers)
+
+
+def left_in(sheet: Sheet, outer: s.Space) -> int:
+    """What rooms can still take of a space's tonnage."""
+    return outer.tonnage - s.tons(s.rooms(sheet.spaces, outer.id))
 
 
 def of_tonnage(rng: Random, tonnage: int) -> tuple[int, list[int], list[int]]:
@@ -1783,7 +1925,7 @@ def a_room(rng: Random, sheet: Sheet, id: int, most: int) -> tuple[int, int, lis
     outer = outer_of(rng, sheet)
     if outer is None or rng.randrange(12) == 0:
         return one_of(rng, (id, 0, an_id(rng, sheet, most), one_of(rng, OFF_IDS))), *of_tonnage(rng, 1)
-    rest = outer.tonnage - s.tons(s.rooms(sheet.spaces, outer.id))
+    rest = left_in(sheet, outer)
     tonnage = one_of(rng, (0, rest, rest, rest + 1, rest // 2, rest * 2 // 3, rest // 3, rest // 3, 1))
     return outer.id, *of_tonnage(rng, tonnage)
 
@@ -1905,6 +2047,21 @@ def an_entry(rng: Random, sheet: Sheet, most: int, kind: int) -> str:
     return enter(id, within, kind, a_standing(rng, kind), length, heights, breadths, ends, a_deck(rng, sheet))
 
 
+def installing(rng: Random, sheet: Sheet, most: int) -> Lines:
+    """A room with which machinery is at an edge of its classes, or deductions are about the gross; and a report."""
+    gross, others, own = s.gross(sheet.spaces), s.d(sheet.spaces), s.machinery(sheet.spaces)
+    standing, tonnage = one_of(rng, (
+        (MACHINERY, one_of(rng, files.edges_of_classes(gross)) - own),
+        (MACHINERY, 4 * (gross - others) // 7 - own + rng.randint(-1, 2)),
+        (DEDUCTED, s.net(sheet.spaces) + rng.randint(-1, 1)),
+    ))
+    outers = [space for space in sheet.spaces if space.kind != H and left_in(sheet, space) >= tonnage]
+    if outers:
+        measures, deck = of_tonnage(rng, max(tonnage, 0)), a_deck(rng, sheet)
+        yield enter(new_id(rng, sheet, most), one_of(rng, outers).id, R, standing, *measures, deck=deck)
+        yield "report 1"
+
+
 def ends_of_tank(rng: Random, tonnage_length: int, under_deck_length: int) -> tuple[int, int]:
     """A tank's length and fore end in a U, often with stations between two zones or a hundredth off that."""
     length = rng.randint(1, under_deck_length)
@@ -1928,7 +2085,7 @@ def ends_of_tank(rng: Random, tonnage_length: int, under_deck_length: int) -> tu
 def sections_that_fit(rng: Random, sheet: Sheet, within: int, length: int, fore: int) -> tuple[list[int], list[int]]:
     """Depths and breadths as asked, as large as the U has tonnage left for them; now and then larger."""
     under_deck = s.find(sheet.spaces, within)
-    rest = under_deck.tonnage - s.tons(s.rooms(sheet.spaces, within))
+    rest = left_in(sheet, under_deck)
     count, row = sections(sheet, within, length, fore)
     for most in (1999, 499, 99, 9):
         depths, breadths = some(rng, count, 0, most), some(rng, count * row, 0, most)
@@ -2016,7 +2173,7 @@ def marking(rng: Random, sheet: Sheet, most: int) -> Lines:
         space = able[rng.randrange(len(able))]
         yield mark(space.id, a_standing(rng, space.kind))
     else:
-        yield mark(an_id(rng, sheet, most), one_of(rng, (0, 0, 1, 2, 3, 4)))
+        yield mark(an_id(rng, sheet, most), one_of(rng, (0, 0, *s.NOT_PLAIN, NO_STANDING)))
 
 
 def undoing(rng: Random, sheet: Sheet, most: int) -> Lines:
@@ -2063,12 +2220,15 @@ def rereading(rng: Random, sheet: Sheet, most: int) -> Lines:
         yield from (one_of(rng, (read(file), before(len(file), file + b"\0" * rng.randrange(3)))), *LOOK)
 
 
-def a_readable_file(rng: Random, sheet: Sheet) -> bytes:
-    """A file in either form: mostly the current sheet's, where that is small and can be written, else any small one."""
+def a_file_to_move(rng: Random, sheet: Sheet) -> bytes:
+    """A file in either form: mostly the current sheet's, where that is small and can be written, else any small one.
+
+    Of those every third has machinery, perhaps with deductions over its gross.
+    """
     form = one_of(rng, tuple(FORMS))
     if can_be_written(sheet, form, MOVED_SPACES) and rng.randrange(4):
         return dayfile.bytes_of(form, sheet, s.JUSTIFIED)
-    return files.a_small_file(rng, form)
+    return one_of(rng, (files.a_small_file, files.a_small_file, files.any_machinery))(rng, form)
 
 
 def damaged(rng: Random, file: bytes) -> bytes:
@@ -2084,13 +2244,13 @@ def damaged(rng: Random, file: bytes) -> bytes:
 
 def moving(rng: Random, sheet: Sheet, most: int) -> Lines:
     """A move of a file, in order or damaged, into a buffer of about the size that it needs; or a read of that file."""
-    file = a_readable_file(rng, sheet)
+    file = a_file_to_move(rng, sheet)
     count, form = dayfile.last_trailer(file).count, a_form(rng)
     form = FORM_2 if form is None else form
     if rng.randrange(3) == 0:
         file = damaged(rng, file)
     if rng.randrange(5) == 0:
-        file = a_readable_file(rng, sheet) + file
+        file = a_file_to_move(rng, sheet) + file
     at, more = one_of(rng, (0, 0, 0, 1, 5, 29)), one_of(rng, (0, 0, 1, 7, -1, -1))
     size = at + dayfile.distance(form if form in FORMS else FORM_2, count) + more
     yield move(file, form, at if rng.randrange(12) else one_of(rng, FAR), size, one_of(rng, (0, 255)))
@@ -2112,8 +2272,9 @@ def saying_nothing(rng: Random, sheet: Sheet, most: int) -> Lines:
 
 
 ACTIONS: tuple[Callable[[Random, Sheet, int], Lines], ...] = (
-    (entering,) * 16 + (tanking,) * 5 + (withdrawing,) * 3 + (marking,) * 6 + (undoing,) * 2 + (redoing,)
-    + (reporting,) * 3 + (writing,) * 2 + (rereading,) + (moving,) + (looking,) * 4 + (zoning,) + (saying_nothing,)
+    (entering,) * 16 + (tanking,) * 5 + (installing,) * 2 + (withdrawing,) * 3 + (marking,) * 6 + (undoing,) * 2
+    + (redoing,) + (reporting,) * 3 + (writing,) * 2 + (rereading,) + (moving,) + (looking,) * 4 + (zoning,)
+    + (saying_nothing,)
 )
 BURST = (entering,) * 8 + (tanking,) * 2 + (marking, looking)
 
@@ -2194,7 +2355,8 @@ def under_deck_walk(rng: Random, session: Session) -> Lines:
     yield from LOOK_AND_REPORT
 
 
-FILES = (writing,) * 4 + (moving,) * 4 + (rereading,) * 2 + (entering, marking, withdrawing, undoing, redoing, looking)
+FILES = (writing,) * 4 + (moving,) * 4 + (rereading,) * 2
+FILES += (entering, installing, marking, withdrawing, undoing, redoing, looking)
 
 
 def file_walk(rng: Random, session: Session) -> Lines:
@@ -2247,7 +2409,8 @@ SECTIONS: tuple[Section, ...] = (
     tank_ranges, tank_sections, tanks_and_files, tanks_as_rooms, where_to_measure, pointed_figures, pointed_ends,
     pairs_of_ends, ends_said, pointed_refusals, pointed_and_changed, pointed_and_files, rounded_under_decks,
     rounded_levels, rounded_depths, not_rounded, decks, deck_refusals, decks_carried, vessels, forms_of_writes,
-    numbers_lost, in_both_forms, days_of_both_forms, moves, refused_moves, malformed, crowded,
+    numbers_lost, in_both_forms, days_of_both_forms, moves, refused_moves, machinery_figures, machinery_and_ballast,
+    deductions_over, machinery_changed, machinery_above_and_below, machinery_and_files, malformed, crowded,
 )
 SEEDS = range(69_107, 69_117)  # of the walks behind the sections
 CALLS_OF_A_WALK = 150

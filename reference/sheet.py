@@ -3,8 +3,9 @@
 A sheet is a value that never changes: every call answers its number, its values and the sheet after it. What can be
 undone and redone is kept as whole copies of the standing spaces, one for each open change.
 Quoted sentences are the paper's, those on tanks the request T-01's, those on ends of a U T-02's, those on roundings
-T-04's, those on deck and vessel numbers T-05's. Of all the numbers of refusal that apply to a call the lowest is given;
-one that can't be judged (a level in an enclosing space that doesn't stand, say) counts as not applying.
+T-04's, those on deck and vessel numbers T-05's, those on machinery T-06's. Of all the numbers of refusal that apply to
+a call the lowest is given; one that can't be judged (a level in an enclosing space that doesn't stand, say) counts as
+not applying.
 """
 
 from dataclasses import dataclass, replace
@@ -27,19 +28,21 @@ NOTHING_OPEN = 12  # nothing undoable, or nothing redoable
 LENGTHS_SHORT = 13  # U lengths don't add up to the tonnage length
 NOT_JUSTIFIED = 14  # ballast over 30%, not justified
 POINTED_WITH_AREA = 19  # U with a pointed end that has area; 'after all the others'
+DEDUCTIONS_PASS = 21  # deductions pass gross
 WITHOUT_M = 29  # tank in a U that has no m; 'after all the others'
 
-# Standings, and 'which kind may have which standing is a table of five rows by four columns'.
-PLAIN, EXEMPT, BALLAST, DEDUCTED = 0, 1, 2, 3
-STANDINGS = (PLAIN, EXEMPT, BALLAST, DEDUCTED)
-NOT_PLAIN = (EXEMPT, BALLAST, DEDUCTED)
+# Standings, and 'which kind may have which standing is a table of five rows by four columns', of five with 'standing 4,
+# machinery, for rooms'. 'Machinery rooms count as not plain.'
+PLAIN, EXEMPT, BALLAST, DEDUCTED, MACHINERY = 0, 1, 2, 3, 4
+STANDINGS = (PLAIN, EXEMPT, BALLAST, DEDUCTED, MACHINERY)
+NOT_PLAIN = (EXEMPT, BALLAST, DEDUCTED, MACHINERY)
 MAY_HAVE = {
-    # plain, exempt, ballast, deducted
-    U: (True, False, False, False),
-    B: (True, True, False, False),
-    S: (True, True, False, False),
-    H: (True, False, False, False),
-    R: (True, True, True, True),
+    # plain, exempt, ballast, deducted, machinery
+    U: (True, False, False, False, False),
+    B: (True, True, False, False, False),
+    S: (True, True, False, False, False),
+    H: (True, False, False, False, False),
+    R: (True, True, True, True, True),
 }
 
 # What an entry says of an end: 'inner (at a step), upright or pointed'. Nothing of it is recorded.
@@ -156,6 +159,11 @@ def d(spaces: State) -> int:
     return tons(spaces, standings=(DEDUCTED,))
 
 
+def machinery(spaces: State) -> int:
+    """'Let M be the sum of all such rooms': all with standing 4."""
+    return tons(spaces, standings=(MACHINERY,))
+
+
 def with_excess(spaces: State, g: int) -> int:
     """'Gross = G + excess', the excess being that of all H."""
     return g + m.hatchway_excess(g, tons(spaces, kinds=(H,)))
@@ -166,9 +174,14 @@ def gross(spaces: State) -> int:
     return with_excess(spaces, t(spaces) - e(spaces))
 
 
+def deductions(spaces: State) -> int:
+    """D and the engine room deduction, which M and the gross give."""
+    return d(spaces) + m.engine_room_deduction(machinery(spaces), gross(spaces))
+
+
 def net(spaces: State) -> int:
-    """'Net = gross - D.'"""
-    return gross(spaces) - d(spaces)
+    """'Net is gross less D less this deduction.'"""
+    return gross(spaces) - deductions(spaces)
 
 
 def gross_for_ballast(spaces: State) -> int:
@@ -333,6 +346,11 @@ def not_justified(sheet: Sheet, justified: int) -> bool:
     return justified == NOT_MARKED and ballast_over(sheet.spaces)
 
 
+def deductions_pass(sheet: Sheet) -> bool:
+    """21: 'when deductions pass gross'."""
+    return deductions(sheet.spaces) > gross(sheet.spaces)
+
+
 # All the numbers that apply to a call
 
 def applying(judged: dict[int, bool]) -> set[int]:
@@ -433,12 +451,13 @@ def numbers_of_redo(sheet: Sheet) -> set[int]:
 
 
 def numbers_of_report(sheet: Sheet, justified: int) -> set[int]:
-    """Those from 1 to 14, for a report; a write has them too."""
+    """Those from 1 to 14, and 21, for a report; a write has them too."""
     return applying({
         SHEET_NOT_OPEN: not sheet.is_open,
         OUT_OF_RANGE: justified not in MARKS,
         LENGTHS_SHORT: lengths_short(sheet),
         NOT_JUSTIFIED: not_justified(sheet, justified),
+        DEDUCTIONS_PASS: deductions_pass(sheet),
     })
 
 

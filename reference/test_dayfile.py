@@ -12,8 +12,10 @@ from unittest import mock
 
 from reference import dayfile as f, files, measure as m, scripts, sheet as s, sheetlist, survey
 from reference.measure import B, H, R, S, U
-from reference.scripts import a_thousand, divided, enter, hatchway, move, room, whole_sheet, withdraw
-from reference.sheet import BALLAST, CLOSED, DEDUCTED, PLAIN, Sheet, Space
+from reference.scripts import (
+    a_thousand, deducted, divided, enter, hatchway, machinery, mark, move, room, whole_sheet, withdraw, write,
+)
+from reference.sheet import BALLAST, CLOSED, DEDUCTED, EXEMPT, MACHINERY, PLAIN, Sheet, Space
 from reference.test_sheet import OfCalls, Step, standard_steps, steps
 
 # The paper's whole sheet, byte by byte. A record: id, enclosing id, kind, standing, zero, tonnage, length.
@@ -336,11 +338,11 @@ class WrongRecords(OfFiles):
                 self.one(position, 4, kind)
 
     def test_standing(self) -> None:
-        """Over 3 outside its range; a U or H but plain, an S but plain or exempt can't be."""
+        """Over 4 outside its range; a U or H but plain, an S but plain or exempt can't be."""
         for position in range(1, 6):
-            for standing in (4, 128, 255):
+            for standing in (5, 128, 255):
                 self.one(position, 5, standing)
-        for position, standings in ((1, (1, 2, 3)), (2, (2, 3)), (5, (1, 2, 3))):
+        for position, standings in ((1, (1, 2, 3, 4)), (2, (2, 3, 4)), (5, (1, 2, 3, 4))):
             for standing in standings:
                 self.one(position, 5, standing)
 
@@ -407,8 +409,8 @@ class WrongRecords(OfFiles):
         """An exempt 2 has the deducted 4 in it."""
         self.refused(with_bytes(EXAMPLE, (21, 1)), 17, 4)
         u = a_record(1, 0, U, 0, 5, 100)
-        for upper in (1, 2, 3):
-            for lower in (1, 2, 3):
+        for upper in (1, 2, 3, 4):
+            for lower in (1, 2, 3, 4):
                 rooms = [a_record(2, 1, R, upper, 0, 1), a_record(3, 2, R, 0, 0, 1), a_record(4, 3, R, lower, 0, 1)]
                 self.refused(a_sheet(100, 5, 5, u, *rooms), 17, 4)
 
@@ -445,7 +447,7 @@ class WrongRecords(OfFiles):
 
 
 class OtherRefusals(OfFiles):
-    """13, 14 and 18, and the order 16, 17, 13, 14, 18."""
+    """13, 14 and 18, and the order 16, 17, 13, 14, 18; 21 between the last two is in `MachineryInFiles`."""
 
     U_700, U_300 = a_record(1, 0, U, 0, 700, 600), a_record(2, 0, U, 0, 300, 600)
 
@@ -491,7 +493,7 @@ class OtherRefusals(OfFiles):
 
     def test_order(self) -> None:
         """Each fault taken away shows the next: 16, 17, 13, 14, 18."""
-        wrong_room = a_record(4, 1, R, 4, 0, 1)
+        wrong_room = a_record(4, 1, R, 5, 0, 1)
         sound_room = a_record(4, 1, R, 0, 0, 1)
         for room_4, zero, length, justified, gross, expected in (
             (wrong_room, 1, 1201, 0, 600, (16, 0)), (wrong_room, 0, 1201, 0, 600, (17, 4)),
@@ -701,7 +703,7 @@ class DecksInFiles(OfFiles):
     def test_the_old_16(self) -> None:
         """Id, enclosing id, kind, standing, zero field, tonnage and length are where they were."""
         for position in range(1, 6):
-            for place, byte in ((0, 0), (1, 0x30), (3, 7), (4, 0), (4, 6), (5, 4), (6, 1), (7, 1), (11, 7), (15, 1)):
+            for place, byte in ((0, 0), (1, 0x30), (3, 7), (4, 0), (4, 6), (5, 5), (6, 1), (7, 1), (11, 7), (15, 1)):
                 self.refused(with_bytes(NUMBERED, (20 * position - 20 + place, byte)), 17, position)
 
     def test_any_vessel_number(self) -> None:
@@ -730,7 +732,7 @@ class DecksInFiles(OfFiles):
 
 
 class WritesInForms(OfCalls):
-    """'A write names the form it wants': 1, 2, 13, 14, 20, 15 in that order."""
+    """'A write names the form it wants': 1, 2, 13, 14, 20, 15 in that order; 21 behind them is in `MachineryInFiles`."""
 
     def setUp(self) -> None:
         super().setUp()
@@ -920,6 +922,150 @@ class DaysOfBothForms(OfFiles):
         self.refused(NUMBERED + with_bytes(EXAMPLE, (ZERO, 2)), 16)
 
 
+class MachineryInFiles(OfFiles):
+    """A U of 1000 with a machinery room and a deducted one, by nets worked out by hand; 21 in each call's order."""
+
+    def sheet(self, form: int, tonnage: int, others: int, net: int, justified: int = 0) -> bytes:
+        """The file of those three, the machinery's tonnage first; it is in order where the net is right."""
+        rooms = a_record(2, 1, R, 4, tonnage, 10), a_record(3, 1, R, 3, others, 10)
+        records = a_record(1, 0, U, 0, 1000, 1200), *rooms
+        if form == 1:
+            return a_sheet(1200, 1000, net, *records, justified=justified)
+        return in_form_2(1200, 1000, net, *map(with_deck, records), justified=justified)
+
+    def spaces(self, tonnage: int, others: int) -> tuple[Space, ...]:
+        """The same three as they stand."""
+        rooms = Space(2, 1, R, MACHINERY, tonnage, 10), Space(3, 1, R, DEDUCTED, others, 10)
+        return Space(1, 0, U, PLAIN, 1000, 1200), *rooms
+
+    def test_both_round_trips(self) -> None:
+        """At 13%, a hundredth over, a hundredth under 20%, at 20%, a half, and where nothing is left.
+
+        18 by a hundredth, and where nothing or just the room is deducted for the machinery.
+        """
+        for tonnage, others, net in (
+            (0, 0, 1000), (130, 0, 680), (130, 5, 675), (131, 0, 680), (199, 0, 680), (200, 0, 650), (202, 0, 646),
+            (571, 0, 1), (571, 1, 0), (130, 680, 0), (150, 680, 0),
+        ):
+            for form, size in ((1, 76), (2, 92)):
+                file, sheet = self.sheet(form, tonnage, others, net), Sheet(True, 1200, self.spaces(tonnage, others))
+                self.accepted(file, 1200, *sheet.spaces, form=form)
+                self.assertEqual(f.write(sheet, 0, bytes(size), 0, form), (0, size, file, sheet))
+                self.assertEqual(f.move(file, form, bytes(size), 0), (0, size, 0, file))
+                for wrong in {net + 1, abs(net - 1), 1000 - others, 1000 - tonnage - others} - {net}:
+                    self.refused(self.sheet(form, tonnage, others, wrong), 18)
+
+    def test_moved_up_and_back(self) -> None:
+        of_form_1, of_form_2 = (self.sheet(form, 200, 7, 643) for form in (1, 2))
+        self.assertEqual(f.move(of_form_1, 2, bytes(92), 0), (0, 92, 0, of_form_2))
+        self.assertEqual(f.move(of_form_2, 1, bytes(76), 0), (0, 76, 0, of_form_1))
+
+    def test_deductions_pass_gross(self) -> None:
+        """Whatever the net: 0, one below it as 8 bytes would have that, or any; a report of it would be refused too."""
+        for tonnage, others in ((571, 2), (572, 0), (130, 681), (150, 681), (100, 755), (1000, 0)):
+            for form, net, justified in product((1, 2), (0, 1, 2**64 - 1), (0, 1)):
+                file = self.sheet(form, tonnage, others, net, justified=justified)
+                self.refused(file, 21)
+                self.assertEqual(f.listing(file), "REFUSED 21 0\n")
+            sheet = Sheet(True, 1200, self.spaces(tonnage, others))
+            self.assertEqual(s.report(sheet, 0), (21, 0, 0, sheet))
+
+    def test_listing(self) -> None:
+        self.assertEqual(f.listing(self.sheet(2, 200, 7, 643)), (
+            "LENGTH 12.00\n1 0 U 0 10.00\n2 1 R 4 2.00\n3 1 R 3 0.07\nGROSS 10.00\nNET 6.43\n"
+        ))
+
+    def test_the_greatest(self) -> None:
+        """1.75 times 57,142,857 is 99,999,999.75, which is rounded to all of 100,000,000; with one more it is over."""
+        hull = a_record(1, 0, U, 0, 100_000_000, 100)
+        for tonnage, number in ((57_142_857, 0), (57_142_858, 21)):
+            file = a_sheet(100, 100_000_000, 0, hull, a_record(2, 1, R, 4, tonnage, 10))
+            self.assertEqual(f.read(file)[0], number)
+
+    def test_standings(self) -> None:
+        """17 for machinery of another kind than a room, and over 4 for every kind."""
+        hull = a_record(1, 0, U, 0, 1000, 1200)
+        for kind, standing in ((B, 4), (S, 4), (H, 4), (B, 5), (S, 5), (H, 5), (R, 5), (R, 255)):
+            own = a_record(2, 1 if kind == R else 0, kind, standing, 0, 100)
+            self.refused(a_sheet(1200, 1000, 1000, hull, own), 17, 2)
+            self.refused(in_form_2(1200, 1000, 1000, *map(with_deck, (hull, own))), 17, 2)
+        for standing in (4, 5):
+            self.refused(a_sheet(1200, 1000, 1000, a_record(1, 0, U, standing, 1000, 1200)), 17, 1)
+
+    def test_order_of_reading(self) -> None:
+        """Each fault taken away shows the next: 16, 17, 13, 14, 21, 18. 475 or 476 of ballast leave 525 or 524."""
+        hull, own = a_record(1, 0, U, 0, 1000, 1200), a_record(2, 1, R, 4, 300, 10)  # 525 deducted
+        for telling, standing, length, justified, ballast, net, expected in (
+            (1, 5, 1201, 0, 476, 1, 16), (0, 5, 1201, 0, 476, 1, 17), (0, 0, 1201, 0, 476, 1, 13),
+            (0, 0, 1200, 0, 476, 1, 14), (0, 0, 1200, 1, 476, 1, 21), (0, 0, 1200, 1, 475, 1, 18),
+            (0, 0, 1200, 1, 475, 0, 0), (1, 0, 1200, 1, 476, 0, 16), (0, 5, 1200, 1, 476, 0, 17),
+            (0, 0, 1201, 1, 476, 0, 13), (0, 0, 1200, 1, 476, 0, 21),
+        ):
+            records = hull, own, a_record(3, 1, R, 2, ballast, 10), a_record(4, 1, R, standing, 0, 10)
+            position = 4 if expected == 17 else 0
+            file = a_sheet(length, 1000 - ballast, net, *records, justified=justified, zero=telling)
+            of_form_2 = in_form_2(
+                length, 1000 - ballast, net, *map(with_deck, records), vessel=9, justified=justified,
+                telling=telling or 2,
+            )
+            self.assertEqual([f.read(one)[:2] for one in (file, of_form_2)], [(expected, position)] * 2)
+            for form in (1, 2):  # of what is read, 20 is for form 1 alone, and 15 for both
+                number = expected or (20 if form == 1 else 15)
+                self.assertEqual(f.move(of_form_2, form, b"", 0), (number, 0, position, b""))
+            self.assertEqual(f.move(of_form_2, 3, b"", 0), (2, 0, 0, b""))
+
+    def test_order_of_writing(self) -> None:
+        """1, 2, 13, 14, 20, 15, 21: it is given only where there is room and nothing is lost."""
+        over = Sheet(True, 1200, self.spaces(571, 2))
+        numbered = replace(over, vessel=7)
+        short = replace(over, length=1201)
+        ballast = replace(over, spaces=(*self.spaces(300, 0), Space(4, 1, R, BALLAST, 476, 10)))
+        buffer = bytes(range(100, 200))
+        for sheet, justified, form, size, number in (
+            (over, 0, 1, 76, 21), (over, 0, 2, 92, 21), (over, 0, 1, 75, 15), (over, 0, 2, 91, 15),
+            (numbered, 0, 1, 76, 20), (numbered, 0, 1, 0, 20), (numbered, 0, 2, 92, 21), (numbered, 0, 2, 0, 15),
+            (ballast, 0, 1, 92, 14), (ballast, 1, 1, 92, 21), (ballast, 1, 1, 91, 15), (short, 0, 1, 76, 13),
+            (short, 1, 1, 0, 13), (over, 2, 1, 76, 2), (over, 0, 3, 76, 2), (over, 0, 0, 0, 2), (CLOSED, 0, 1, 76, 1),
+        ):
+            self.assertEqual(f.write(sheet, justified, buffer[:size], 0, form), (number, 0, buffer[:size], sheet))
+        self.assertEqual(f.numbers_of_write(numbered, 0, b"", 0, 1), {20, 15, 21})
+        self.assertEqual(f.numbers_of_write(ballast, 0, b"", 0, 2), {14, 15, 21})
+        self.assertEqual(f.numbers_of_write(over, 0, bytes(76), 0, 1), {21})
+
+
+class MachineryInCalls(OfCalls):
+    """The same by the lines of the program `survey`."""
+
+    def test_written_and_read_back(self) -> None:
+        """131 of 1000 have 320 deducted; marked as exempt after the read, they are out of the gross."""
+        for form, size in ((1, 108), (2, 132)):
+            self.accepted(*a_thousand(), *machinery(131), *deducted(20))
+            written = self.session.answer(write(0, 0, size, form)).split(" ")
+            self.assertEqual(written[:2], ["0", str(size)])
+            self.asks(f"read {written[2]}", f"0 0 0 0 {form}")
+            self.asks("report 0", "0 1000 660")
+            self.accepted(mark(4, EXEMPT))
+            self.asks("report 0", "0 869 849")
+            self.accepted("undo")
+            self.asks(write(0, 0, size, form), f"0 {size} {written[2]}")
+
+    def test_refused(self) -> None:
+        """A refused write leaves the buffer, a refused read no sheet, a refused move the sheet and the buffer."""
+        over = a_sheet(1200, 1000, 0, a_record(1, 0, U, 0, 1000, 1200), a_record(2, 1, R, 4, 572, 10))
+        self.accepted(*a_thousand(), *machinery(572))
+        self.asks("writef 0 2 111 171", "21 0 " + "ab" * 111)
+        self.asks("writef 0 0 3 171", "15 0 ababab")
+        before = self.session.sheet
+        self.asks(move(over, 2, 0, 72, 1), "21 0 0 " + "01" * 72)
+        self.asks(move(over, 1, 0, 1, 1), "21 0 0 01")
+        self.assertEqual(self.session.sheet, before)
+        self.asks(f"before 60 {over.hex()}00", "21 0 0 0 0")
+        self.assertEqual(self.session.sheet, CLOSED)
+        self.accepted(*a_thousand())
+        self.asks(f"read {over.hex()}", "21 0 0 0 0")
+        self.assertEqual(self.session.sheet, CLOSED)
+
+
 class Listing(unittest.TestCase):
     """The form of the lines that `sheetlist` prints."""
 
@@ -967,7 +1113,8 @@ class RoundTrips(OfFiles):
             buffer = b"\xa5" * (size_of(form, len(sheet.spaces)) + 9)
             number, count, after, same = f.write(sheet, justified, buffer, 4, form)
             loses = form == 1 and (sheet.vessel != 0 or any(space.deck != 0 for space in sheet.spaces))
-            self.assertEqual((number, same), (s.report(sheet, justified)[0] or (20 if loses else 0), sheet))
+            refused = s.report(sheet, justified)[0]
+            self.assertEqual((number, same), (20 if loses and refused in (0, 21) else refused, sheet))
             written[form, number] += 1
             if number:
                 self.assertEqual((count, after), (0, buffer))
@@ -1048,10 +1195,10 @@ class GeneratedFiles(unittest.TestCase):
     def test_every_number(self) -> None:
         made = Counter(case.made_for[0] for case in self.made)
         chance = Counter(read_of(case.file)[0] for case in self.cases if case.made_for is None)
-        self.assertEqual(set(made), {0, 13, 14, 16, 17, 18})
-        self.assertEqual(set(chance), {0, 13, 14, 16, 17, 18})
+        self.assertEqual(set(made), {0, 13, 14, 16, 17, 18, 21})
+        self.assertEqual(set(chance), {0, 13, 14, 16, 17, 18, 21})
         self.assertGreater(min(made[number] for number in (0, 16, 17, 18)), 50)
-        self.assertGreater(min(chance[number] for number in (0, 13, 16, 17, 18)), 50)
+        self.assertGreater(min(chance[number] for number in (0, 13, 16, 17, 18, 21)), 50)
 
     def test_sizes(self) -> None:
         """From 1 to 200 spaces, several sheets, bytes ahead, and as long as an input may be."""
@@ -1100,12 +1247,12 @@ class GeneratedFiles(unittest.TestCase):
             self.assertLessEqual(causes, found[position])
 
     def test_faults_at_once(self) -> None:
-        """Every set of the five numbers in each form; the first in the order of reading is given."""
+        """Every set of the six numbers in each form; the first in the order of reading is given."""
         at_once = [case for case in self.cases if "at once" in case.name]
-        self.assertEqual(len(at_once), 2 * 3 * 32)
+        self.assertEqual(len(at_once), 2 * 3 * 64)
         for form in (1, 2):
             of_form = {case.made_for[0] for case in at_once if f"in form {form}" in case.name}
-            self.assertEqual(of_form, {0, 16, 17, 13, 14, 18})
+            self.assertEqual(of_form, {0, 16, 17, 13, 14, 21, 18})
 
     def test_flips(self) -> None:
         """Every one of the 864 bits of the example."""
@@ -1317,7 +1464,9 @@ class FilesInTheStandardScript(unittest.TestCase):
         self.assertLessEqual({frozenset(numbers) for numbers in (
             (), (15,), (14,), (13,), (2,), (14, 15), (13, 15), (2, 15), (13, 14), (13, 14, 15), (2, 13), (2, 13, 15),
             (1, 2), (20,), (20, 15), (14, 20), (14, 20, 15), (13, 20), (13, 20, 15), (13, 14, 20), (13, 14, 20, 15),
-            (2, 20), (2, 20, 15), (2, 13, 20), (2, 13, 20, 15),
+            (2, 20), (2, 20, 15), (2, 13, 20), (2, 13, 20, 15), (21,), (2, 21), (13, 21), (14, 21), (20, 21), (15, 21),
+            (2, 15, 21), (13, 15, 21), (13, 14, 21), (14, 15, 21), (14, 20, 21), (20, 15, 21), (14, 20, 15, 21),
+            (13, 14, 20, 15, 21), (2, 13, 20, 15, 21),
         )}, found)
 
     def test_reads(self) -> None:
@@ -1377,7 +1526,8 @@ class FormsInTheStandardScript(unittest.TestCase):
             sheet = Sheet(True, trailer.length, tuple(map(f.space_of, records)), vessel=vessel)
             judged |= {
                 17: f.resumed(trailer.length, records, vessel)[0] > 0, 13: s.lengths_short(sheet),
-                14: s.not_justified(sheet, trailer.justified), 18: f.wrong_sums(sheet, trailer),
+                14: s.not_justified(sheet, trailer.justified), 21: s.deductions_pass(sheet),
+                18: f.wrong_sums(sheet, trailer),
                 20: form == 1 and (vessel > 0 or any(record.deck for record in records)),
                 15: not judged[2] and size - at < size_of(form, len(records)),
             }
@@ -1386,7 +1536,9 @@ class FormsInTheStandardScript(unittest.TestCase):
     def test_writes(self) -> None:
         """Each number in each form, left out or named; of a form that is none only 1 and 2, above its type too."""
         found = Counter((step.further.get("form"), step.number) for step in self.writes)
-        for form, numbers in ((None, {0, 1, 2, 13, 14, 15, 20}), (1, {0, 2, 13, 14, 15, 20}), (2, {0, 2, 13, 14, 15})):
+        for form, numbers in (
+            (None, {0, 1, 2, 13, 14, 15, 20, 21}), (1, {0, 2, 13, 14, 15, 20, 21}), (2, {0, 2, 13, 14, 15, 21})
+        ):
             self.assertLessEqual({(form, number) for number in numbers}, set(found))
             self.assertGreater(min(found[form, number] for number in numbers), 2)
         self.assertNotIn((2, 20), found)
@@ -1436,7 +1588,7 @@ class FormsInTheStandardScript(unittest.TestCase):
                 decks = any(space.deck for space in step.after.spaces)
                 found.add((int(step.answer.split(" ")[4]), decks, bool(step.after.vessel)))
         self.assertEqual(found, {(1, False, False), *product((2,), (False, True), (False, True))})
-        self.assertLessEqual(set(product((0, 2), (0, 13, 14, 16, 17, 18))), set(told))
+        self.assertLessEqual(set(product((0, 2), (0, 13, 14, 16, 17, 18, 21))), set(told))
         self.assertLessEqual({(1, 16), (3, 16), (255, 16)}, set(told))
 
     def test_fields(self) -> None:
@@ -1452,7 +1604,7 @@ class FormsInTheStandardScript(unittest.TestCase):
                 ]
                 found |= {(form, *one) for one in wrong if len(wrong) == 1}
         edges = (
-            ("id", 0), ("id", 10_000), ("within", 9), ("kind", 0), ("kind", 6), ("standing", 4), ("zero", 1),
+            ("id", 0), ("id", 10_000), ("within", 9), ("kind", 0), ("kind", 6), ("standing", 5), ("zero", 1),
             ("zero", 256), ("tonnage", 100_000_001), ("length", 0), ("length", 150_001),
         )
         of_form_2 = (*edges, ("deck", 100), ("second_zero", 1), ("second_zero", 256))
@@ -1506,6 +1658,27 @@ class FormsInTheStandardScript(unittest.TestCase):
                 found |= {(f.last_form(file), *numbers)} if len(numbers) == 1 else set()
         self.assertEqual(found, set(product((1, 2), (4, 5, 6, 7, 8, 9))))
 
+    def test_reads_of_machinery(self) -> None:
+        """Each class in both forms; all of the gross deducted and one over; 21 beside each of the others."""
+        found, beside = set(), set()
+        for step in self.reads:
+            file = step.arguments[-1] if step.call == "read" else step.arguments[1][:step.arguments[0]]
+            if f.wrong_file(file):
+                continue
+            trailer, spaces = f.last_trailer(file), tuple(map(f.space_of, f.last_records(file)))
+            own, gross, net = s.machinery(spaces), s.gross(spaces), s.net(spaces)
+            if own and step.number in (0, 18, 21):
+                found.add((step.number, f.last_form(file), m.class_of_machinery(own, gross)))
+                found |= {(step.number, f.last_form(file), net)} if net in (0, -1) else set()
+                found |= {(step.number, trailer.net)} if net == -1 else set()
+            if net < 0:
+                beside.add(step.number)
+        for form, numbers in ((1, (0, 18, 21)), (2, (0, 21))):
+            self.assertLessEqual(set(product(numbers, (form,), (m.SMALL, m.MIDDLE, m.LARGE))), found)
+            self.assertLessEqual({(0, form, 0), (21, form, -1)}, found)
+        self.assertLessEqual({(21, 0), (21, 2**64 - 1)}, found)
+        self.assertEqual(beside, {17, 13, 14, 21})
+
     def test_days(self) -> None:
         """Days that go back from each form to each; of those read at once the last one refused with each number too."""
         found = {"read": set(), "before": set()}
@@ -1522,7 +1695,7 @@ class FormsInTheStandardScript(unittest.TestCase):
                 if step.call == "read" and len(last) >= 28 and f.read(ahead)[4] == form:
                     refused.add((form, last[-21], step.number))
         for form, telling, other in ((1, 2, 0), (2, 0, 2)):
-            self.assertLessEqual({(form, telling, number) for number in (13, 14, 17, 18)}, refused)
+            self.assertLessEqual({(form, telling, number) for number in (13, 14, 17, 18, 21)}, refused)
             self.assertLessEqual({(form, 1, 16), (form, other, 16)}, refused)
 
     def test_moves(self) -> None:
@@ -1537,7 +1710,7 @@ class FormsInTheStandardScript(unittest.TestCase):
         self.assertGreater(min(accepted.values()), 8)
         self.assertLessEqual({(1, 2, 1), (1, 2, 200), (2, 1, 1), (2, 1, 200)}, counts)
         numbers = Counter(step.number for step in self.moves)
-        self.assertEqual(set(numbers), {0, 2, 13, 14, 15, 16, 17, 18, 20})
+        self.assertEqual(set(numbers), {0, 2, 13, 14, 15, 16, 17, 18, 20, 21})
         self.assertGreater(min(numbers.values()), 3)
         self.assertLessEqual({1, 2, 3}, {int(step.answer.split(" ")[2]) for step in self.moves if step.number == 17})
         self.assertLessEqual({0, 3, 255}, {step.arguments[1] for step in self.moves if step.number == 2})
@@ -1550,10 +1723,12 @@ class FormsInTheStandardScript(unittest.TestCase):
             self.assertEqual(step.number, numbers[0] if numbers else 0, msg=step.line)
             found.add(tuple(numbers))
             neighbours |= set(zip(numbers, numbers[1:]))
-        of_reading = (16, 17, 13, 14, 18)
-        alone = {(number,) for number in (2, *of_reading, 20, 15)}
-        self.assertLessEqual({(), *alone, *product((2,), of_reading), *product(of_reading, (20,), (15,))}, found)
-        self.assertLessEqual(set(zip(of_reading, of_reading[1:])) | {(18, 20), (20, 15)}, neighbours)
+        of_reading = ((16,), (17,), (13,), (14,), (21, 18), (18,))  # no net is right where deductions pass gross
+        self.assertLessEqual({(), (2,), *of_reading, (20,), (15,)}, found)
+        self.assertLessEqual({(2, *numbers) for numbers in of_reading}, found)
+        self.assertLessEqual({(*numbers, 20, 15) for numbers in of_reading}, found)
+        order = (16, 17, 13, 14, 21, 18, 20, 15)
+        self.assertLessEqual(set(zip(order, order[1:])), neighbours)
 
     def test_places_of_moves(self) -> None:
         """A byte short and just enough in each form; at the end of a buffer, past it and far behind."""
@@ -1585,7 +1760,7 @@ class FormsInTheStandardScript(unittest.TestCase):
         self.assertLessEqual({(1, 0), (2, 0), (1, 20), (2, 15), (1, 15), (2, 13), (1, 13)}, set(writes))
         self.assertTrue({form for form, number in writes if number == 2} - {1, 2})
         moves = Counter(step.number for step in walked if step.call == "move")
-        self.assertLessEqual({0, 2, 15, 16, 17, 18, 20}, set(moves))
+        self.assertLessEqual({0, 2, 15, 16, 17, 18, 20, 21}, set(moves))
         pairs = {(f.read(step.arguments[0])[4], step.arguments[1]) for step in walked if step.call == "move"}
         self.assertLessEqual(set(product((1, 2), repeat=2)), pairs)
         reads = {(step.number, step.answer.split(" ")[4]) for step in walked if step.call in ("read", "before")}

@@ -520,6 +520,92 @@ class Tanks(unittest.TestCase):
         self.assertGreater(between, 5)
 
 
+# 69.121(e)(2), worked out by hand: machinery and gross in hundredths of a ton, the class and what is deducted.
+DEDUCTIONS = (
+    (0, 0, m.SMALL, 0), (0, 1000, m.SMALL, 0), (0, 1, m.SMALL, 0),
+    (1, 1000, m.SMALL, 2),  # 32/13 is 2.46
+    (12, 1000, m.SMALL, 30),  # 384/13 is 29.54
+    (13, 1000, m.SMALL, 32),
+    (130, 1000, m.SMALL, 320),  # exactly 13%
+    (131, 1000, m.MIDDLE, 320),  # 4192/13 would be 322.46
+    (131, 1010, m.SMALL, 322),  # 12.97%
+    (131, 1007, m.MIDDLE, 322),  # 13.01%, and 32% is 322.24
+    (132, 1011, m.MIDDLE, 324),  # 32% is 323.52
+    (132, 1014, m.MIDDLE, 324),  # 32% is 324.48
+    (128, 700, m.MIDDLE, 224),  # 32% and 1.75 times 128 are both 224, under 20%
+    (129, 700, m.MIDDLE, 224),  # 1.75 times would be 225.75
+    (127, 700, m.MIDDLE, 224),  # 1.75 times would be 222.25
+    (139, 700, m.MIDDLE, 224), (140, 700, m.LARGE, 245),  # exactly 20%
+    (199, 1000, m.MIDDLE, 320), (200, 1000, m.LARGE, 350),
+    (200, 1001, m.MIDDLE, 320),  # 19.98%, and 32% is 320.32
+    (201, 1000, m.LARGE, 352),  # 351.75
+    (202, 1000, m.LARGE, 354),  # 353.5, a half
+    (203, 1000, m.LARGE, 355),  # 355.25
+    (1, 5, m.LARGE, 2), (3, 15, m.LARGE, 5),  # 1.6 and 1.75, 4.8 and 5.25: both are rounded to one figure
+    (2, 10, m.LARGE, 4), (1, 4, m.LARGE, 2), (2, 15, m.MIDDLE, 5), (1, 1, m.LARGE, 2),
+    (570, 1000, m.LARGE, 998), (571, 1000, m.LARGE, 999), (572, 1000, m.LARGE, 1001),  # 997.5, 999.25 and 1001
+    (57_142_857, 100_000_000, m.LARGE, 100_000_000),  # 99,999,999.75
+    (2_600_000_000, 20_000_000_000, m.SMALL, 6_400_000_000), (2_600_000_001, 20_000_000_000, m.MIDDLE, 6_400_000_000),
+    (3_999_999_999, 20_000_000_000, m.MIDDLE, 6_400_000_000), (4_000_000_000, 20_000_000_000, m.LARGE, 7_000_000_000),
+)
+
+
+def in_whole_numbers(machinery: int, gross: int) -> int:
+    """The deduction once more: of 32 M / 13, of 32 gross / 100 and of 7 M / 4, where a half goes up."""
+    if 100 * machinery <= 13 * gross:
+        return (64 * machinery + 13) // 26
+    of_gross = (64 * gross + 100) // 200
+    return of_gross if 5 * machinery < gross else max(of_gross, (14 * machinery + 4) // 8)
+
+
+class EngineRoom(unittest.TestCase):
+    """The engine room deduction of vessels propelled by screw."""
+
+    def test_by_hand(self) -> None:
+        for machinery, gross, of_class, deduction in DEDUCTIONS:
+            self.assertEqual(m.class_of_machinery(machinery, gross), of_class, msg=(machinery, gross))
+            self.assertEqual(m.engine_room_deduction(machinery, gross), deduction, msg=(machinery, gross))
+
+    def test_in_whole_numbers(self) -> None:
+        """Each two up to 300, and the classes: they are disjoint and cover."""
+        for gross in range(301):
+            for machinery in range(gross + 1):
+                of_class = m.class_of_machinery(machinery, gross)
+                self.assertEqual(of_class == m.SMALL, 100 * machinery <= 13 * gross)
+                self.assertEqual(of_class == m.MIDDLE, 13 * gross < 100 * machinery < 20 * gross)
+                self.assertEqual(of_class == m.LARGE, 100 * machinery > 13 * gross and 100 * machinery >= 20 * gross)
+                self.assertEqual(m.engine_room_deduction(machinery, gross), in_whole_numbers(machinery, gross))
+        for machinery, gross, _, deduction in DEDUCTIONS:
+            self.assertEqual(in_whole_numbers(machinery, gross), deduction)
+
+    def test_at_13_percent_two_classes_give_one_figure(self) -> None:
+        for hundreds in range(200):
+            self.assertEqual(m.deduction_of_small(13 * hundreds), m.deduction_of_middle(100 * hundreds))
+
+    def test_from_20_percent_on_32_percent_are_never_the_greater(self) -> None:
+        """They are rounded to the same figure only where the machinery is 1 of 5 or 3 of 15."""
+        alike = set()
+        for gross in range(1, 301):
+            for machinery in range(-(-gross // 5), gross + 1):
+                self.assertLessEqual(m.deduction_of_middle(gross), m.nearest(Fraction(7 * machinery, 4)))
+                if m.deduction_of_middle(gross) == m.nearest(Fraction(7 * machinery, 4)):
+                    alike.add((machinery, gross))
+        self.assertEqual(alike, {(1, 5), (3, 15)})
+
+    def test_halves(self) -> None:
+        """13 and 25 are odd, so that only 7 M / 4 has any: where M is 2 more than a number of fours."""
+        for number in range(200):
+            for exact in (Fraction(32 * number, 13), Fraction(32 * number, 100)):
+                self.assertNotEqual(exact % 1, Fraction(1, 2))
+            self.assertEqual(Fraction(7 * number, 4) % 1 == Fraction(1, 2), number % 4 == 2)
+            self.assertEqual(m.deduction_of_large(4 * number + 2, 0), 7 * number + 4)
+
+    def test_more_machinery_never_has_less_deducted(self) -> None:
+        for gross in (0, 1, 5, 99, 100, 1000):
+            deductions = [m.engine_room_deduction(machinery, gross) for machinery in range(gross + 1)]
+            self.assertEqual(deductions, sorted(deductions))
+
+
 class Properties(unittest.TestCase):
     """What follows from the rules."""
 

@@ -4,6 +4,7 @@ import io
 import unittest
 from contextlib import redirect_stderr, redirect_stdout
 from dataclasses import FrozenInstanceError, dataclass, replace
+from fractions import Fraction
 from functools import cache, cached_property
 from itertools import combinations, product
 from typing import Any, Iterator, Sequence
@@ -12,11 +13,12 @@ from unittest import mock
 from reference import dayfile, measure as m, scripts, sheet as s, survey
 from reference.measure import B, H, R, S, U
 from reference.scripts import (
-    a_thousand, by_stations, chain, divided, enter, even_tank, half, hatchway, mark, read_and_entered_anew, room, tank,
-    tank_of_a_thousand, twenty_thousand, withdraw, zones,
+    a_thousand, by_stations, chain, deducted, divided, enter, even_tank, half, hatchway, machinery, mark,
+    read_and_entered_anew, room, tank, tank_of_a_thousand, twenty_thousand, withdraw, zones,
 )
-from reference.sheet import BALLAST, DEDUCTED, EXEMPT, INNER, PLAIN, POINTED, UPRIGHT, Sheet, Space
+from reference.sheet import BALLAST, DEDUCTED, EXEMPT, INNER, MACHINERY, PLAIN, POINTED, UPRIGHT, Sheet, Space
 from reference.survey import Session
+from reference.test_measure import in_whole_numbers
 
 BEGINNINGS = ("open", "read", "before")  # they 'take no sheet and answer a new one'
 ENTRIES = ("enter", "tank")
@@ -296,17 +298,17 @@ class ReadingsOfEntries(OfCalls):
 
     def test_entry_looks_only_above(self) -> None:
         self.accepted(*a_thousand(), room(4, 1, 50, EXEMPT))
-        self.refused(8, *(room(5, 4, 1, standing) for standing in (EXEMPT, BALLAST, DEDUCTED)))
+        self.refused(8, *(room(5, 4, 1, standing) for standing in (EXEMPT, BALLAST, DEDUCTED, MACHINERY)))
         self.accepted(room(5, 4, 1), room(6, 1, 50, BALLAST), room(7, 2, 50, DEDUCTED))
         self.refused(8, room(8, 5, 1, EXEMPT))
 
     def test_numbers_that_cannot_be_judged(self) -> None:
         """They count as not applying; a lower number applies where they can't be judged."""
         self.accepted(*a_thousand(), hatchway(4, 5))
-        self.refused(2, enter(9, 0, 7, 0, 100, [], []), enter(9, 4, R, 7, 1, [1], [1]), enter(9, 3, S, 4, 9, [], []))
+        self.refused(2, enter(9, 0, 7, 0, 100, [], []), enter(9, 4, R, 7, 1, [1], [1]), enter(9, 3, S, 5, 9, [], []))
         self.refused(3, enter(9, 1, R, 0, 150_000, [20_000] * 2, [30_000]))
         self.refused(5, room(9, 77, 150_000, EXEMPT))
-        self.refused(2, mark(77, 4), mark(4, 4), "report 2")
+        self.refused(2, mark(77, 5), mark(4, 5), "report 2")
         judged = s.numbers_of_entry(self.session.sheet, Space(9, 77, R, 1, 0, 1), [1, 1], [1])
         self.assertEqual(judged, {3, 5})
         self.assertEqual(s.numbers_of_entry(self.session.sheet, Space(9, 4, 9, 9, 0, 1), [], []), {2})
@@ -352,23 +354,25 @@ class ReadingsOfEntries(OfCalls):
         self.accepted(divided(3, B, 1200, 150_000, 1, 1), divided(4, S, 1200, 1300, 1, 1), hatchway(5, 1300))
 
     def test_kinds_by_standings(self) -> None:
-        takes = {U: (0,), B: (0, 1), S: (0, 1), H: (0,), R: (0, 1, 2, 3)}
+        takes = {U: (0,), B: (0, 1), S: (0, 1), H: (0,), R: (0, 1, 2, 3, 4)}
         count = {U: (3, 15), B: (7, 7), S: (3, 3), H: (1, 1), R: (1, 1)}
         self.accepted("open 1200", divided(1, U, 1200, 600, 1200, 500))
         for kind in m.KINDS:
-            for standing in range(4):
+            for standing in range(5):
                 line = enter(9, 1, kind, standing, 100, [50] * count[kind][0], [50] * count[kind][1])
                 if standing in takes[kind]:
                     self.accepted(line, withdraw(9))
                 else:
                     self.refused(6, line)
+            for standing in (5, 255, 256, 260):
+                self.refused(2, enter(9, 1, kind, standing, 100, [50] * count[kind][0], [50] * count[kind][1]))
             self.accepted(enter(9, 1, kind, 0, 100, [50] * count[kind][0], [50] * count[kind][1]))
-            for standing in range(4):
+            for standing in range(5):
                 if standing in takes[kind]:
                     self.accepted(mark(9, standing))
                 else:
                     self.refused(6, mark(9, standing))
-            self.refused(2, mark(9, 4), mark(9, 255), mark(9, 256))
+            self.refused(2, mark(9, 5), mark(9, 255), mark(9, 256), mark(9, 260))
             self.accepted(withdraw(9))
 
     def test_hatchway_encloses_nothing(self) -> None:
@@ -388,7 +392,7 @@ class ReadingsOfEntries(OfCalls):
         for first in ("", "open 99"):
             self.given(first)
             self.refused(
-                1, hatchway(1, 5), enter(0, 0, 9, 9, 0, [], []), withdraw(1), withdraw(0), mark(1, 0), mark(1, 4),
+                1, hatchway(1, 5), enter(0, 0, 9, 9, 0, [], []), withdraw(1), withdraw(0), mark(1, 0), mark(1, 5),
                 "undo", "redo", "report 0", "report 1", "report 2",
             )
             self.assertEqual(self.given("spaces", "counts"), ["0 0 0 0 0", "0 0 0"])
@@ -417,7 +421,7 @@ class ReadingsOfChanges(OfCalls):
 
     def test_one_not_plain_standing_for_another(self) -> None:
         self.accepted(*a_thousand(), room(4, 1, 50, EXEMPT), room(5, 4, 10))
-        self.accepted(*(mark(4, standing) for standing in (2, 3, 1, 1, 3, 2)), mark(5, PLAIN))
+        self.accepted(*(mark(4, standing) for standing in (2, 3, 1, 4, 4, 1, 1, 3, 4, 3, 2, 4, 2)), mark(5, PLAIN))
         self.refused(8, mark(5, EXEMPT))
         self.accepted(mark(4, PLAIN), mark(5, EXEMPT), mark(4, PLAIN))
         self.refused(8, mark(4, EXEMPT))
@@ -426,7 +430,7 @@ class ReadingsOfChanges(OfCalls):
         self.accepted("open 1200", divided(1, S, 1200, 300, 933, 1000), *chain(1, 2, 7, 40), room(9, 3, 0))
         for upper, lower in combinations(range(1, 9), 2):
             self.accepted(mark(upper, EXEMPT))
-            self.refused(8, *(mark(lower, standing) for standing in (1, 2, 3)))
+            self.refused(8, *(mark(lower, standing) for standing in (1, 2, 3, 4)))
             self.accepted(mark(lower, PLAIN), mark(upper, PLAIN), mark(lower, DEDUCTED))
             self.refused(8, mark(upper, EXEMPT))
             self.accepted(mark(upper, PLAIN), mark(lower, PLAIN))
@@ -595,7 +599,7 @@ class ReadingsOfTanks(OfCalls):
         self.on_a_read_sheet()
         depths, breadths = self.RIGHT
         for number, line in (
-            (2, tank(500, 1, 4, 300, 0, depths, breadths)), (2, tank(500, 1, 255, 300, 0, depths, breadths)),
+            (2, tank(500, 1, 5, 300, 0, depths, breadths)), (2, tank(500, 1, 255, 300, 0, depths, breadths)),
             (2, tank(500, 1, 0, 300, 0, [9, 9, 20_001], breadths)), (2, tank(500, 1, 0, 300, 0, depths, [30_001] * 15)),
             (3, tank(500, 1, 0, 300, 0, [9] * 4, breadths)), (3, tank(500, 1, 0, 300, 0, [9] * 2, breadths)),
             (3, tank(500, 1, 0, 300, 0, depths, [9] * 14)), (3, tank(500, 1, 0, 300, 0, depths, [9] * 16)),
@@ -621,9 +625,9 @@ class ReadingsOfTanks(OfCalls):
         for numbers, line in (
             ({2, 9}, tank(500, 1, 0, 300, 150_001, depths, breadths)), ({2, 9}, tank(500, 1, 0, 150_001, 0, [], [])),
             ({2, 3}, tank(500, 1, 0, 300, 0, [9] * 3 + [20_001], breadths)),
-            ({2, 3}, tank(500, 1, 0, 300, 0, depths, [*breadths, 30_001])), ({2, 3}, tank(500, 1, 4, 300, 0, [], [])),
-            ({2, 5}, tank(500, 77, 0, 300, 0, depths, [*breadths, 30_001])), ({2, 6}, tank(500, 4, 4, 300, 0, [], [])),
-            ({2, 4}, tank(0, 1, 4, 300, 0, depths, breadths)), ({2, 29}, tank(500, 2, 4, 300, 0, [], [])),
+            ({2, 3}, tank(500, 1, 0, 300, 0, depths, [*breadths, 30_001])), ({2, 3}, tank(500, 1, 5, 300, 0, [], [])),
+            ({2, 5}, tank(500, 77, 0, 300, 0, depths, [*breadths, 30_001])), ({2, 6}, tank(500, 4, 5, 300, 0, [], [])),
+            ({2, 4}, tank(0, 1, 5, 300, 0, depths, breadths)), ({2, 29}, tank(500, 2, 5, 300, 0, [], [])),
             ({3, 4}, tank(2, 1, 0, 300, 0, [], [])), ({3}, tank(500, 1, 0, 600, 0, [1200] * 4, [500] * 15)),
             ({4}, tank(65_536, 1, 0, 300, 0, *self.RIGHT)), ({4, 5}, tank(0, 77, 0, 300, 0, [], [])),
             ({4, 6}, tank(1, 3, 0, 300, 0, [], [])), ({4, 9}, tank(1, 1, 0, 601, 0, [], [])),
@@ -648,7 +652,7 @@ class ReadingsOfTanks(OfCalls):
             ({9, 10}, tank(500, 1, 0, 601, 0, [], [])), ({9, 10}, tank(500, 1, 0, 600, 0, *over)),
             ({3, 10}, tank(500, 1, 0, 300, 0, [], [])), ({6, 10}, tank(500, 3, 0, 601, 0, [], [])),
             ({5, 10}, tank(500, 500, 0, 601, 0, [], [])), ({4, 10}, tank(1, 1, 0, 300, 0, *right)),
-            ({2, 10}, tank(500, 1, 4, 300, 0, *right)),
+            ({2, 10}, tank(500, 1, 5, 300, 0, *right)),
         ):
             self.assertEqual(self.numbers(line), numbers, msg=line)
             self.refused(min(numbers), line)
@@ -904,7 +908,7 @@ class ReadingsOfEnds(OfCalls):
         for numbers, line in (
             ({19}, entry()), ({19}, entry(ends=(POINTED, UPRIGHT))), ({19}, entry(ends=(INNER, POINTED))),
             (set(), entry(ends=(INNER, UPRIGHT))),
-            ({2, 19}, entry(standing=4)), ({2, 19}, entry(ends=(POINTED, 0))), ({2, 19}, entry(ends=(4, POINTED))),
+            ({2, 19}, entry(standing=5)), ({2, 19}, entry(ends=(POINTED, 0))), ({2, 19}, entry(ends=(4, POINTED))),
             ({2}, entry(ends=(INNER, 4))), ({2}, entry(length=99)),
             ({2}, enter(2, 0, U, 0, 600, depths, [*breadths[1:], 30_001], pointed)),
             ({2, 3, 9}, entry(length=150_001)), ({3}, enter(2, 0, U, 0, 600, depths, breadths[1:], pointed)),
@@ -914,7 +918,7 @@ class ReadingsOfEnds(OfCalls):
             ({4, 19}, entry(id=1)), ({4, 19}, entry(id=0)), ({4, 19}, entry(id=10_000)),
             ({6, 19}, entry(standing=EXEMPT)), ({9, 19}, entry(length=601)),
             ({4, 6, 9, 19}, entry(id=1, standing=DEDUCTED, length=601)),
-            ({2, 4, 9, 19}, entry(id=1, standing=4, length=601)), ({2, 4, 6, 9}, entry(1, 1, 601, (0, 0))),
+            ({2, 4, 9, 19}, entry(id=1, standing=5, length=601)), ({2, 4, 6, 9}, entry(1, 1, 601, (0, 0))),
         ):
             self.assertEqual(self.numbers(line), numbers, msg=line)
             if numbers:
@@ -1052,7 +1056,7 @@ class ReadingsOfRoundings(OfCalls):
         self.accepted("open 1300", divided(1, U, 1300, 600, 1200, 500), hatchway(2, 20), *chain(1, 11, 7, 1))
         self.accepted(mark(16, EXEMPT))
         for kind, length, heights, breadths in self.ALL:
-            self.asks(self.entry(kind, length, heights, breadths, standing=4), "2 0 -")
+            self.asks(self.entry(kind, length, heights, breadths, standing=5), "2 0 -")
             self.asks(self.entry(kind, length, heights, [*breadths, 9]), "3 0 -")
             self.asks(self.entry(kind, length, [*heights, 9], breadths), "3 0 -")
             self.asks(self.entry(kind, length, heights, breadths, id=1), "4 0 -")
@@ -1155,7 +1159,7 @@ class ReadingsOfDecks(OfCalls):
             self.refused(number, line, f"{line} 0", f"{line} 99")
             self.refused(2, f"{line} 100", f"{line} 256")
             self.assertEqual((self.numbers(f"{line} 99"), self.numbers(f"{line} 100")), ({number}, {2, number}))
-        self.refused(2, room(500, 1, 1, 4, 99), room(500, 1, 1, 4, 100))
+        self.refused(2, room(500, 1, 1, 5, 99), room(500, 1, 1, 5, 100))
         self.accepted(*(room(id, 11) for id in range(1000, 1000 + s.PLACES - len(self.session.sheet.spaces))))
         self.refused(10, room(500, 1, 1, PLAIN, 99))
         self.refused(2, room(500, 1, 1, PLAIN, 100))
@@ -1332,6 +1336,163 @@ class ReadingsOfReports(OfCalls):
     def test_no_under_deck(self) -> None:
         self.accepted("open 100")
         self.refused(13, "report 0", "report 1")
+
+
+class ReadingsOfMachinery(OfCalls):
+    """Vessels with screws: nets worked out by hand from 69.121(e)(2), and when deductions pass gross."""
+
+    def reports(self, *lines: str, gross: int = 1000, net: int) -> None:
+        """What the thousand must be reported as with these changes, marked or not; they are undone."""
+        self.accepted(*lines)
+        for report in ("report 0", "report 1"):
+            self.asks(report, f"0 {gross} {net}")
+        self.accepted(*["undo"] * len(lines))
+
+    def over(self, *lines: str) -> None:
+        """Changes on the thousand with which a report must be refused with 21; they are undone."""
+        self.accepted(*lines)
+        before = self.session.sheet
+        for report in ("report 0", "report 1"):
+            self.asks(report, "21 0 0")
+        self.assertEqual(self.session.sheet, before)
+        self.accepted(*["undo"] * len(lines))
+
+    def test_classes(self) -> None:
+        """Of 1000, 13% is 130, 20% is 200 and 32% is 320; 12 have 29.54 deducted, 202 have 353.5, which is a half."""
+        self.accepted(*a_thousand())
+        for tonnage, net in (
+            (0, 1000), (1, 998), (12, 970), (13, 968), (129, 682), (130, 680), (131, 680), (182, 680), (183, 680),
+            (199, 680), (200, 650), (201, 648), (202, 646), (203, 645), (204, 643), (570, 2), (571, 1),
+        ):
+            self.reports(*machinery(tonnage), net=net)
+
+    def test_all_rooms_are_added_up(self) -> None:
+        """131 have 320 deducted, room by room it would be 246, 74 and 2; 40 have 98.46, however deep they stand."""
+        self.accepted(*a_thousand())
+        self.reports(room(4, 1, 100, MACHINERY), room(5, 3, 30, MACHINERY), room(6, 2, 1, MACHINERY), net=680)
+        self.reports(room(4, 2, 50), room(5, 4, 50), room(6, 5, 40, MACHINERY), net=902)
+
+    def test_the_excess_of_hatchways_counts(self) -> None:
+        """Hatchways of 105 less an allowance of 5: of 1100, 13% is 143, 20% is 220 and 32% is 352."""
+        self.accepted(*a_thousand(), hatchway(9, 105))
+        for tonnage, net in ((131, 778), (143, 748), (144, 748), (219, 748), (220, 715)):
+            self.reports(*machinery(tonnage), gross=1100, net=net)
+
+    def test_of_what_is_left_of_the_gross(self) -> None:
+        """Of 720, where 280 are exempt, 13% is 93.6, 20% is 144 and 32% is 230.4; 93 has 228.92 deducted."""
+        for lines in ([mark(3, EXEMPT)], [room(9, 3, 280, EXEMPT)], [room(9, 3, 280, BALLAST)]):
+            self.accepted(*a_thousand(), *lines)
+            for tonnage, net in ((93, 491), (94, 490), (143, 490), (144, 468)):
+                self.reports(*machinery(tonnage), gross=720, net=net)
+
+    def test_in_neither_e_nor_d(self) -> None:
+        """80 of 970 have 196.92 deducted, and 40 beside that."""
+        self.accepted(*a_thousand(), room(4, 1, 10, EXEMPT), room(5, 1, 20, BALLAST), room(6, 2, 40, DEDUCTED))
+        self.reports(room(7, 2, 80, MACHINERY), gross=970, net=733)
+        self.accepted(room(7, 2, 80, MACHINERY))
+        spaces = self.session.sheet.spaces
+        self.assertEqual([of(spaces) for of in (s.t, s.e, s.d, s.machinery)], [1000, 30, 40, 80])
+
+    def test_ballast_is_as_it_was(self) -> None:
+        """30% of 1000 is 300, whatever the machinery: of 700 and 699, 200 is more than 20%, and 350 is deducted."""
+        self.accepted(*a_thousand(), room(4, 1, 300, BALLAST), room(5, 2, 200, MACHINERY))
+        self.assertEqual(s.gross_for_ballast(self.session.sheet.spaces), 1000)
+        self.asks("report 0", "0 700 350")
+        self.accepted(room(6, 3, 1, BALLAST))
+        self.asks("report 0", "14 0 0")
+        self.asks("report 1", "0 699 349")
+
+    def test_a_sheet_without_machinery(self) -> None:
+        """It has the figures it had: nothing is deducted but D."""
+        self.accepted(*FiguresOfThePaper.WHOLE)
+        self.asks("report 0", "0 12439 12119")
+        self.assertEqual(s.deductions(self.session.sheet.spaces), 320)
+
+    def test_no_gross(self) -> None:
+        self.accepted("open 1200", divided(1, U, 1200, 1200, 0, 9), room(2, 1, 0, MACHINERY))
+        self.asks("report 0", "0 0 0")
+        self.accepted(hatchway(3, 77))
+        self.asks("report 0", "0 77 77")
+
+    def test_a_small_gross(self) -> None:
+        """Of 5, 1.6 and 1.75 are both 2; of 15, 4.8 and 5.25 are both 5; of 10, 3.2 and 3.5 are 3 and 4."""
+        for gross, tonnage, report in (
+            (5, 1, (0, 5, 3)), (15, 3, (0, 15, 10)), (10, 2, (0, 10, 6)), (5, 0, (0, 5, 5)), (15, 2, (0, 15, 10)),
+            (4, 1, (0, 4, 2)), (5, 3, (0, 5, 0)), (7, 4, (0, 7, 0)), (1, 1, (21, 0, 0)), (5, 4, (21, 0, 0)),
+        ):
+            sheet = s.resume(1200, (Space(1, 0, U, 0, gross, 1200), Space(2, 1, R, MACHINERY, tonnage, 1)))[1]
+            self.assertEqual(s.report(sheet, 0), (*report, sheet))
+
+    def test_all_of_the_gross_and_one_over(self) -> None:
+        """246.15, 320, 320, 350, 700 and 999.25 deducted for the machinery, in each class."""
+        self.accepted(*a_thousand())
+        for tonnage, others in ((100, 754), (130, 680), (150, 680), (200, 650), (400, 300), (571, 1)):
+            self.reports(*machinery(tonnage), *deducted(others - 1), net=1)
+            self.reports(*machinery(tonnage), *deducted(others), net=0)
+            self.over(*machinery(tonnage), *deducted(others + 1))
+        self.over(*machinery(572))
+        self.over(*machinery(720), room(6, 3, 280, MACHINERY))
+
+    def test_numbers_of_a_report(self) -> None:
+        """21 behind 2, 13 and 14: 361 of 360, 1001 of 1000, and 700 of 699 with ballast of 301."""
+        short = "open 1200", divided(1, U, 1200, 600, 1200, 500), room(4, 1, 206, MACHINERY)
+        ballast = *a_thousand(), *machinery(280), room(5, 2, 301, BALLAST), *deducted(210)
+        for lines, numbers in (
+            ((*a_thousand(), *machinery(572)), {21}), (short, {13, 21}), (ballast, {14, 21}),
+            ((*short, room(5, 1, 109, BALLAST)), {13, 14, 21}), ((*ballast, withdraw(6)), {14}),
+        ):
+            self.accepted(*lines)
+            sheet = self.session.sheet
+            self.assertEqual(s.numbers_of_report(sheet, 0), numbers)
+            self.assertEqual(s.numbers_of_report(sheet, 1), numbers - {14})
+            self.assertEqual(s.numbers_of_report(sheet, 2), numbers - {14} | {2})
+            self.asks("report 0", f"{min(numbers)} 0 0")
+            self.refused(2, "report 2")
+        self.accepted(*ballast, withdraw(6), room(6, 3, 209, DEDUCTED))
+        self.asks("report 1", "0 699 0")
+
+    def test_marks(self) -> None:
+        """200 deducted leave 800; as machinery, 350 are deducted."""
+        self.accepted(*a_thousand(), room(4, 1, 200, DEDUCTED))
+        for line, net in (
+            (mark(4, MACHINERY), 650), ("undo", 800), ("redo", 650), (mark(4, DEDUCTED), 800), ("undo", 650),
+            ("redo", 800), ("undo", 650), ("undo", 800), (mark(4, PLAIN), 1000), (mark(4, MACHINERY), 650),
+            (mark(4, MACHINERY), 650), ("undo", 650), (withdraw(4), 1000), ("undo", 650),
+        ):
+            self.accepted(line)
+            self.asks("report 0", f"0 1000 {net}")
+        self.refused(2, mark(4, 5))
+        self.asks("counts", "0 6 1")
+
+    def test_above_and_below(self) -> None:
+        """Machinery rooms count as not plain: beside every standing that isn't, from above and from below."""
+        self.accepted(*a_thousand(), *chain(1, 4, 3, 100))
+        for other in (EXEMPT, BALLAST, DEDUCTED, MACHINERY):
+            for upper, lower in ((other, MACHINERY), (MACHINERY, other)):
+                self.accepted(mark(4, upper))
+                self.refused(8, mark(5, lower), mark(6, lower), room(7, 6, 1, lower), room(7, 4, 0, lower))
+                self.accepted(mark(4, PLAIN), mark(6, lower))
+                self.refused(8, mark(4, upper), mark(5, upper))
+                self.accepted(room(7, 5, 0, upper), withdraw(7), mark(6, PLAIN))
+        self.accepted(room(7, 3, 1, MACHINERY))
+        self.refused(8, mark(3, EXEMPT))
+
+    def test_a_tank(self) -> None:
+        """Half of a U of 360: 180 of 1000 have 320 deducted."""
+        self.accepted(*a_thousand())
+        own = tank_of_a_thousand(4, 1, 300, 0, 1200, 500, MACHINERY)
+        self.reports(own, net=680)
+        self.accepted(own)
+        self.assertEqual(self.session.sheet.spaces[-1], Space(4, 1, R, MACHINERY, 180, 300))
+        self.refused(2, tank_of_a_thousand(5, 1, 300, 300, 9, 9, 5), tank_of_a_thousand(5, 1, 300, 300, 9, 9, 260))
+        self.refused(8, room(5, 4, 1, MACHINERY))
+
+    def test_a_refused_report_changes_nothing(self) -> None:
+        self.accepted(*a_thousand(), *machinery(571), *deducted(2), hatchway(9, 5), "undo")
+        self.refused(21, "report 0", "report 1", "write 0 0 124")
+        self.asks("counts", "0 6 1")
+        self.accepted("redo", hatchway(10, 1))  # 6 less an allowance of 5
+        self.asks("report 0", "0 1001 0")
 
 
 class Recorded(OfCalls):
@@ -1546,22 +1707,26 @@ class Invariants(unittest.TestCase):
 
     def test_nothing_is_taken_off_twice(self) -> None:
         for sheet in self.states:
-            of = {(kind, standing): 0 for kind in m.KINDS for standing in range(4)}
+            of = {(kind, standing): 0 for kind in m.KINDS for standing in range(5)}
             for space in sheet.spaces:
                 of[space.kind, space.standing] += space.tonnage
-            total = sum(of[kind, standing] for kind in (U, B, S) for standing in range(4))
+            total = sum(of[kind, standing] for kind in (U, B, S) for standing in range(5))
             exempt = sum(of[kind, standing] for kind in m.KINDS for standing in (1, 2))
-            deducted = sum(of[kind, 3] for kind in m.KINDS)
-            self.assertLessEqual(exempt + deducted, total)
-            self.assertEqual((total, exempt, deducted), (s.t(sheet.spaces), s.e(sheet.spaces), s.d(sheet.spaces)))
+            as_deducted, as_machinery = (sum(of[kind, standing] for kind in m.KINDS) for standing in (3, 4))
+            sums = total, exempt, as_deducted, as_machinery
+            self.assertLessEqual(exempt + as_deducted + as_machinery, total)
+            self.assertEqual(sums, tuple(of_paper(sheet.spaces) for of_paper in (s.t, s.e, s.d, s.machinery)))
             allowance = (total - exempt + 100) // 200
             gross = total - exempt + max(of[H, 0] - allowance, 0)
-            self.assertEqual((s.gross(sheet.spaces), s.net(sheet.spaces)), (gross, gross - deducted))
-            self.assertTrue(0 <= gross - deducted <= gross)
+            net = gross - as_deducted - in_whole_numbers(as_machinery, gross)
+            self.assertEqual((s.gross(sheet.spaces), s.net(sheet.spaces)), (gross, net))
+            self.assertTrue(0 <= gross - as_deducted <= gross)
+            self.assertEqual(s.deductions_pass(sheet), net < 0)
 
     def test_reports(self) -> None:
         given = [step for step in self.steps if step.call == "report" and step.number is not None]
         self.assertGreater(sum(step.number == 0 for step in given), 300)
+        self.assertGreater(sum(step.number == 21 for step in given), 50)
         for step in given:
             number, gross, net = map(int, step.answer.split(" "))
             self.assertTrue(0 <= net <= gross)
@@ -1744,7 +1909,7 @@ class StandardScript(unittest.TestCase):
         self.assertTrue(self.text.startswith("#"))
         self.assertTrue(self.text.endswith("\n"))
         self.assertLessEqual(len(self.text), 1_040_000)
-        self.assertTrue(5_000 <= len(self.steps) <= 20_000, msg=len(self.steps))
+        self.assertTrue(5_000 <= len(self.steps) <= 22_000, msg=len(self.steps))
         self.assertEqual(survey.answers(self.text), "".join(step.answer + "\n" for step in self.steps))
 
     def test_reproducible(self) -> None:
@@ -1761,9 +1926,9 @@ class StandardScript(unittest.TestCase):
             "open": {0, 2}, "enter": {0, 1, 2, 3, 4, 5, 6, 7, 8, 9, 10, 19}, "tank": {0, 1, 2, 3, 4, 5, 6, 9, 10, 29},
             "zones": {0, 2, 9}, "withdraw": {0, 1, 5, 11},
             "mark": {0, 1, 2, 5, 6, 8}, "undo": {0, 1, 12}, "redo": {0, 1, 12}, "counts": {0},
-            "report": {0, 1, 2, 13, 14}, "write": {0, 1, 2, 13, 14, 15, 20}, "writef": {0, 1, 2, 13, 14, 15, 20},
-            "read": {0, 13, 14, 16, 17, 18}, "before": {0, 13, 14, 16, 17, 18},
-            "move": {0, 2, 13, 14, 15, 16, 17, 18, 20}, "spaces": {0},
+            "report": {0, 1, 2, 13, 14, 21}, "write": {0, 1, 2, 13, 14, 15, 20, 21},
+            "writef": {0, 1, 2, 13, 14, 15, 20, 21}, "read": {0, 13, 14, 16, 17, 18, 21},
+            "before": {0, 13, 14, 16, 17, 18, 21}, "move": {0, 2, 13, 14, 15, 16, 17, 18, 20, 21}, "spaces": {0},
         }
         for call, expected in numbers.items():
             self.assertEqual({step.number for step in self.of(call)}, expected, msg=call)
@@ -1801,7 +1966,7 @@ class StandardScript(unittest.TestCase):
         self.assertLessEqual({(low, high) for low, highs in above.items() for high in highs}, found["tank"])
         self.assertFalse(found["tank"] & {(3, 5), (3, 6), (3, 9), (3, 29), (5, 6), (5, 9), (5, 29), (6, 9), (6, 29)})
         self.assertEqual(found["mark"], {(2, 5), (6, 8)})
-        self.assertEqual(found["report"], {(2, 13), (13, 14)})
+        self.assertEqual(found["report"], {(2, 13), (2, 21), (13, 14), (13, 21), (14, 21)})
 
     def test_levels(self) -> None:
         entered = {s.level(step.before.spaces, step.new) for step in self.entries if step.number == 0}
@@ -1917,7 +2082,7 @@ class StandardScript(unittest.TestCase):
     def test_marks_of_the_same_standing(self) -> None:
         same = [step for step in self.marks if step.number == 0 and step.before.spaces == step.after.spaces]
         kinds = {(s.find(step.before.spaces, step.arguments[0]).kind, step.arguments[1]) for step in same}
-        self.assertLessEqual({(U, 0), (B, 0), (S, 0), (H, 0), (R, 0), (R, 1), (R, 2), (R, 3)}, kinds)
+        self.assertLessEqual({(U, 0), (B, 0), (S, 0), (H, 0), (R, 0), (R, 1), (R, 2), (R, 3), (R, 4)}, kinds)
         self.assertTrue(any(step.before.later and not step.after.later for step in same))
 
     def test_not_plain_above_and_below(self) -> None:
@@ -1947,7 +2112,7 @@ class StandardScript(unittest.TestCase):
             (s.find(step.before.spaces, step.arguments[0]).standing, step.arguments[1])
             for step in self.marks if step.number == 0
         }
-        self.assertEqual(found, {(one, other) for one in range(4) for other in range(4)})
+        self.assertEqual(found, {(one, other) for one in range(5) for other in range(5)})
 
     def test_ballast(self) -> None:
         """Exactly 30% and a little over, not justified and justified; hatchways and exempt spaces in the gross."""
@@ -1965,6 +2130,103 @@ class StandardScript(unittest.TestCase):
             self.assertTrue(any(s.tons(step.before.spaces, kinds=(H,)) for step in found))
             self.assertTrue(any(s.tons(step.before.spaces, standings=(EXEMPT,)) for step in found))
 
+    def share_of_machinery(self, step: Step) -> tuple[int, int, int]:
+        """Machinery, gross and what is left of it, of the sheet that is reported."""
+        spaces = step.before.spaces
+        return s.machinery(spaces), s.gross(spaces), s.net(spaces)
+
+    def test_classes_of_machinery(self) -> None:
+        """At exactly 13% and 20% and a hundredth off; of a gross with an excess, with something exempt or deducted."""
+        found, beside = set(), set()
+        for step in self.of("report", 0):
+            own, gross, _ = self.share_of_machinery(step)
+            if own:
+                found |= {("13%", 100 * own - 13 * gross), ("20%", 5 * own - gross)}
+                others = gross > s.t(step.before.spaces), s.e(step.before.spaces) > 0, s.d(step.before.spaces) > 0
+                beside.add((m.class_of_machinery(own, gross), *others))
+        self.assertLessEqual({("13%", by) for by in (-100, -13, 0, 100)}, found)
+        self.assertLessEqual({("20%", by) for by in (-5, -1, 0, 5)}, found)
+        for of_class in (m.SMALL, m.MIDDLE, m.LARGE):
+            for place in (1, 2, 3):
+                self.assertEqual({one[place] for one in beside if one[0] == of_class}, {False, True})
+
+    def test_roundings_of_deductions(self) -> None:
+        """In each class up, down and exact, and next to a half; of 1.75 times the machinery the half too."""
+        found = set()
+        for step in self.of("report", 0):
+            own, gross, _ = self.share_of_machinery(step)
+            of_class = m.class_of_machinery(own, gross)
+            of_gross, of_large = Fraction(32 * gross, 100), Fraction(7 * own, 4)
+            exact = {m.SMALL: Fraction(32 * own, 13), m.MIDDLE: of_gross, m.LARGE: of_large}[of_class]
+            found |= {(of_class, exact % 1)} if own else set()
+            found |= {"one figure"} if of_class == m.LARGE and m.nearest(of_gross) == m.nearest(of_large) else set()
+            found |= {"1.75 times under 20%"} if of_class == m.MIDDLE and of_gross < of_large else set()
+        self.assertLessEqual({(m.SMALL, Fraction(part, 13)) for part in (0, 6, 7)}, found)
+        self.assertLessEqual({(m.MIDDLE, Fraction(part, 25)) for part in (0, 12, 13)}, found)
+        self.assertLessEqual({(m.LARGE, Fraction(part, 4)) for part in (0, 1, 2, 3)}, found)
+        self.assertLessEqual({"one figure", "1.75 times under 20%"}, found)
+
+    def test_no_machinery(self) -> None:
+        """Of a gross and of none, with a room of nothing and without."""
+        found = set()
+        for step in self.of("report", 0):
+            own, gross, _ = self.share_of_machinery(step)
+            rooms = any(space.standing == MACHINERY for space in step.before.spaces)
+            found |= {(rooms, bool(gross))} if not own else set()
+        self.assertEqual(found, set(product((False, True), repeat=2)))
+
+    def test_deductions_and_gross(self) -> None:
+        """All of it deducted and one over, in each class; by machinery alone one under and one over."""
+        found = set()
+        for step in self.of("report", 0, 21):
+            own, gross, net = self.share_of_machinery(step)
+            alone = not s.d(step.before.spaces)
+            found.add((step.number, m.class_of_machinery(own, gross), net, alone))
+            self.assertEqual(step.number == 21, net < 0)
+        for of_class in (m.SMALL, m.MIDDLE, m.LARGE):
+            self.assertLessEqual({(0, of_class, 1, False), (0, of_class, 0, False), (21, of_class, -1, False)}, found)
+        self.assertLessEqual({(0, m.LARGE, 1, True), (21, m.LARGE, -1, True)}, found)
+
+    def test_machinery_of_every_kind(self) -> None:
+        """Entered and marked: 6 for every kind but a room, and a tank of it; 5 and what would wrap to 4 are refused."""
+        entered = {(step.number, step.new.kind) for step in self.entries if step.new.standing == MACHINERY}
+        marked = set()
+        for step in self.marks:
+            own = s.find(step.before.spaces, step.arguments[0])
+            marked |= {(step.number, own.kind)} if own and step.arguments[1] == MACHINERY else set()
+        for found in (entered, marked):
+            self.assertLessEqual({(0, R), (8, R), *((6, kind) for kind in (U, B, S, H))}, found)
+        self.assertIn(MACHINERY, {step.new.standing for step in self.of("tank", 0)})
+        places = {"enter": 4, "tank": 3, "mark": 2}
+        for call, place in places.items():
+            self.assertLessEqual({"5", "260"}, {step.words[place] for step in self.of(call, 2)})
+
+    def test_machinery_above_and_below(self) -> None:
+        """8 with machinery above and below every standing that isn't plain, by marks of both and by entries."""
+        found = set()
+        for step in self.entries:
+            if step.number == 8:
+                above = s.above(step.before.spaces, step.new)
+                found |= {("entered below", other.standing, step.new.standing) for other in above}
+        for step in self.marks:
+            if step.number == 8:
+                spaces, standing = step.before.spaces, step.arguments[1]
+                own = s.find(spaces, step.arguments[0])
+                found |= {("marked below", other.standing, standing) for other in s.above(spaces, own)}
+                found |= {("marked above", standing, other.standing) for other in s.below(spaces, own)}
+        for how, upper, lower in product(("entered below", "marked below", "marked above"), range(1, 5), range(1, 5)):
+            if MACHINERY in (upper, lower):
+                self.assertIn((how, upper, lower), found)
+
+    def test_machinery_marked_and_undone(self) -> None:
+        """From deducted and back, each reported, undone, reported, made again and reported."""
+        found = set()
+        for first, *later in self.runs("mark", "report", "undo", "report", "redo", "report"):
+            own = s.find(first.before.spaces, first.arguments[0])
+            if {step.number for step in (first, *later)} == {0}:
+                found.add((own.standing, first.arguments[1]))
+        self.assertLessEqual({(DEDUCTED, MACHINERY), (MACHINERY, DEDUCTED)}, found)
+
     def test_excess(self) -> None:
         found = set()
         for step in self.of("report", 0):
@@ -1974,10 +2236,10 @@ class StandardScript(unittest.TestCase):
         self.assertLessEqual({-1, 0, 1}, found)
 
     def test_justified_marks(self) -> None:
-        for number, marks in ((0, {0, 1}), (13, {0, 1}), (14, {0}), (1, {0, 1, 2, 255}), (2, {2, 3, 4, 255})):
-            self.assertEqual({step.arguments[0] for step in self.of("report", number)} & {0, 1, 2, 3, 4, 255}, marks | (
-                {3} if number == 1 else set()
-            ))
+        for number, marks in (
+            (0, {0, 1}), (13, {0, 1}), (14, {0}), (21, {0, 1}), (1, {0, 1, 2, 3, 255}), (2, {2, 3, 5, 255})
+        ):
+            self.assertEqual({step.arguments[0] for step in self.of("report", number)} & {0, 1, 2, 3, 5, 255}, marks)
 
     def test_enclosing_ids(self) -> None:
         found = set()
@@ -1998,8 +2260,9 @@ class StandardScript(unittest.TestCase):
         refused = [step.arguments for step in self.entries if step.number == 2]
         self.assertLessEqual({0, 6, 255}, {arguments[2] for arguments in refused})
         for kind in m.KINDS:
-            self.assertLessEqual({4, 255}, {arguments[3] for arguments in refused if arguments[2] == kind})
-        self.assertLessEqual({4, 255}, {step.arguments[1] for step in self.marks if step.number == 2})
+            self.assertLessEqual({5, 255}, {arguments[3] for arguments in refused if arguments[2] == kind})
+        self.assertLessEqual({5, 255}, {step.arguments[1] for step in self.marks if step.number == 2})
+        self.assertLessEqual({5, 255}, {step.arguments[2] for step in self.of("tank", 2)})
 
     def test_numbers_above_their_types(self) -> None:
         """At every place of every call, the greatest number and one that would wrap into its range."""
@@ -2031,7 +2294,7 @@ class StandardScript(unittest.TestCase):
             found |= {"last"} if len(of_stations) - 1 in twice else set()
             found |= {"inside"} if any(0 < place < len(of_stations) - 1 for place in twice) else set()
             tonnages.add(step.new.tonnage)
-        self.assertLessEqual({4, 6, 100, 101, 102, 103, "as many", "others", "fore", "aft"}, found)
+        self.assertLessEqual({4, 6, 100, 101, 102, 103, 104, "as many", "others", "fore", "aft"}, found)
         self.assertLessEqual({"first", "last", "inside"}, found)
         self.assertLessEqual({f"{parts} parts" for parts in (2, 4, 6, 8, 10, 16)}, found)
         self.assertLessEqual({0, 1, 2, 3, 4}, between)
@@ -2283,6 +2546,24 @@ class StandardScript(unittest.TestCase):
             session.answer(first)
             for line in scripts.MALFORMED:
                 self.assertIn((session.answer(line) or "?")[0], "?", msg=line)
+
+    def test_random_machinery(self) -> None:
+        """Calls at random have machinery of each class, in tanks too, a standing over 4, and 21 by report and write."""
+        found = set()
+        for seed in range(12):
+            for step in steps(scripts.script(seed, 400)):
+                if step.call in ("report", *WRITES) and step.number in (0, 21):
+                    own, gross, _ = self.share_of_machinery(step)
+                    found.add((step.call, step.number, m.class_of_machinery(own, gross) if own else "none"))
+                elif step.call in (*ENTRIES, "mark") and step.number in (0, 2, 8):
+                    standing = step.arguments[1] if step.call == "mark" else step.new.standing
+                    found.add((step.call, step.number, standing))
+        for call in ("report", "writef"):
+            of_classes = {(call, 0, of_class) for of_class in (m.SMALL, m.MIDDLE, m.LARGE)}
+            self.assertLessEqual(of_classes | {(call, 21, m.LARGE)}, found)
+        for call in (*ENTRIES, "mark"):
+            self.assertLessEqual({(call, 0, MACHINERY), (call, 2, scripts.NO_STANDING)}, found)
+        self.assertLessEqual({("enter", 8, MACHINERY), ("mark", 8, MACHINERY)}, found)
 
     def test_random_roundings(self) -> None:
         """Calls at random have U, B and S in every number of parts, rounded up, down and not, and all of depths."""

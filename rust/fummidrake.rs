@@ -311,7 +311,7 @@ impl Sheet {
         calls::fummidrake_counts(self)
     }
 
-    /// Gives gross and net; `justified` is 1 where the surveyor justifies the water ballast, else 0. Refused with 1, 2, 13, 14.
+    /// Gives gross and net; `justified` is 1 where the surveyor justifies the water ballast, else 0. Refused with 1, 2, 13, 14, 21.
     pub fn report(self, justified: u8) -> Reported {
         calls::fummidrake_report(self, justified)
     }
@@ -353,7 +353,7 @@ impl Sheet {
 
     /// Writes the sheet with its justified mark into a buffer, from the byte `at` on, in a form: in form 1 16 bytes a space and 28 behind
     /// them, in form 2 20 and 32, with the decks and the vessel number. No byte before or after is touched, and none where refused, with 1, 2,
-    /// 13, 14, 20, 15.
+    /// 13, 14, 20, 15, 21.
     pub fn write(self, justified: u8, form: u8, buf: &mut [u8], at: usize) -> Written {
         // SAFETY: the pointer and its bytes are one slice's, lent for the call alone.
         unsafe { calls::fummidrake_write(self, justified, form, buf.as_mut_ptr(), buf.len(), at) }
@@ -387,7 +387,7 @@ pub fn section_station(tonnage_length: u32, under_deck: u32, length: u32, fore: 
 
 /// Reads the last sheet of a file, which may be any bytes; the bytes ahead of its start are the earlier sheets, read the same way. Either form
 /// is read, and answered; a sheet in form 1 has no decks and no vessel number. Refused, with a sheet not open, mark 0, start 0 and form 0, with
-/// 16, 17, 13, 14, 18.
+/// 16, 17, 13, 14, 21, 18.
 pub fn read(file: &[u8]) -> Reading {
     // SAFETY: the pointer and its bytes are one slice's.
     unsafe { calls::fummidrake_read(file.as_ptr(), file.len()) }
@@ -400,7 +400,7 @@ pub fn read_before(file: &[u8], start: usize) -> Reading {
 }
 
 /// Moves the last sheet of the file `from`, with its mark, into the buffer `to`, from the byte `at` on, in a form, which may be the one it has.
-/// No byte before or after is touched, and none where refused, with 2, 16, 17, 13, 14, 18, 20, 15.
+/// No byte before or after is touched, and none where refused, with 2, 16, 17, 13, 14, 21, 18, 20, 15.
 pub fn move_last(from: &[u8], form: u8, to: &mut [u8], at: usize) -> Moved {
     // SAFETY: each pointer and its bytes are one slice's, `to` lent for the call alone.
     unsafe { calls::fummidrake_move_last(from.as_ptr(), from.len(), form, to.as_mut_ptr(), to.len(), at) }

@@ -1,8 +1,10 @@
 #!/usr/bin/env python3
-"""Builds and runs the examples in C and Rust by the README's own lines, and plays the tank's script on the proved program; fails where one
-prints something else than the second program's answers, examples/answers.txt (with the listing) and examples/tank_answers.txt; where a
-day's file moved up isn't what the second program makes of it, examples/barge_form_2.day; and where the README's few lines of C or Rust answer
-another number than it says of them, or its section on the tank quotes an answer that isn't among these.
+"""Builds and runs the examples in C and Rust by the README's own lines, and plays the tank's and the tug's script on the proved program.
+
+Fails where one prints something else than the second program's answers, examples/answers.txt (with the listing), examples/tank_answers.txt
+and examples/tug_answers.txt; where a day's file moved up isn't what the second program makes of it, examples/barge_form_2.day; and where the
+README's few lines of C or Rust answer another number than it says of them, or its sections on the tank and the tug quote an answer that isn't
+among these.
 
 A line that compiles C or runs a program goes by tools/x86, which does the same on a machine of another kind; where no Rust is compiled
 for x86-64, the examples in Rust are left out.
@@ -15,19 +17,24 @@ import sys
 from pathlib import Path
 
 # The answers of each script: a line a call, its name and its answer.
-ANSWERS = {'barge': Path('examples/answers.txt'), 'tank': Path('examples/tank_answers.txt')}
+ANSWERS = {
+    'barge': Path('examples/answers.txt'),
+    'tank': Path('examples/tank_answers.txt'),
+    'tug': Path('examples/tug_answers.txt'),
+}
 # Each line of the README that must print the answers of a script; `survey` prints them without the calls' names.
 RUNS = {'target/survey_c': 'barge', 'target/survey_rust': 'barge', 'target/tank_c': 'tank', 'target/tank_rust': 'tank'}
-PLAYS = {'target/bin/survey < examples/tank.txt': 'tank'}
+PLAYS = {'target/bin/survey < examples/tank.txt': 'tank', 'target/bin/survey < examples/tug.txt': 'tug'}
 # The line that moves the example barge's file up to form 2; that file, what it must be there, and what the line writes.
 MOVES = 'target/move_up < examples/barge.day > target/barge_form_2.day'
 BARGE, BARGE_FORM_2, MOVED = Path('examples/barge.day'), Path('examples/barge_form_2.day'), Path('target/barge_form_2.day')
 CODE = re.compile(r'```\w+\n(.*?)```', re.S)
 
-# The sections of the README with lines that are run, and those of them with few lines of code: a program around these, LINES, which ends
-# with status 0 where HELD, and how it is built and run.
-TANK = 'A tank that follows the hull'
-SECTIONS = ('Call it from C', 'Call it from Rust', 'Deck and vessel numbers', TANK)
+# The sections of the README that quote answers, each with its script.
+QUOTES = {'Vessels with screws': 'tug', 'A tank that follows the hull': 'tank'}
+# All with lines that are run, and those of them with few lines of code: a program around these, LINES, which ends with status 0 where HELD,
+# and how it is built and run.
+SECTIONS = ('Call it from C', 'Call it from Rust', 'Deck and vessel numbers', *QUOTES)
 CALLS = {
     'Call it from C': (
         'calls.c',
@@ -64,9 +71,13 @@ def try_code(section: str) -> None:
 
 
 def misquoted() -> list[str]:
-    """The answers in the section on the tank, each a quotation that begins with a digit, that the second program doesn't give."""
-    answers = ANSWERS['tank'].read_text()
-    return [quoted for quoted in re.findall(r'`(\d[^`]*)`', text_of(TANK)) if quoted not in answers]
+    """The answers that the README quotes, each a quotation that begins with a digit, and the second program doesn't give."""
+    return [
+        quoted
+        for section, script in QUOTES.items()
+        for quoted in re.findall(r'`(\d[^`]*)`', text_of(section))
+        if quoted not in ANSWERS[script].read_text()
+    ]
 
 
 def wrongly_moved() -> str:
@@ -113,7 +124,7 @@ def main() -> int:
         print(f'README.md: no line {", ".join(sorted(missing))}')
         return 1
     if wrong := misquoted():
-        print(f'README.md: quotes {", ".join(wrong)}, which {ANSWERS["tank"]} doesn\'t have')
+        print(f'README.md: quotes {", ".join(wrong)}, which the second program doesn\'t answer')
         return 1
     for section, line in lines:
         if 'rust' in line and not rust:

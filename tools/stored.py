@@ -36,7 +36,8 @@ def stored() -> dict[Path, bytes]:
     found[Path('examples/barge_form_2.day')] = dayfile.move(whole, dayfile.FORM_2, bytes(size), 0)[-1]
     barge = Path('examples/barge.txt').read_text()
     found[Path('examples/answers.txt')] = (morning(barge) + dayfile.listing(whole)).encode('ascii')
-    found[Path('examples/tank_answers.txt')] = morning(Path('examples/tank.txt').read_text()).encode('ascii')
+    for name in ('tank', 'tug'):
+        found[Path(f'examples/{name}_answers.txt')] = morning(Path(f'examples/{name}.txt').read_text()).encode('ascii')
     found[Path('examples/barge.svg')] = picture(dayfile.listing(whole)).encode('ascii')
     return found
 

@@ -50,17 +50,18 @@ const GREATEST_TONNAGE: u32 = 100_000_000;
 
 impl Sheet {
     /// Writes the sheet with its justified mark in a form, from a place of the buffer on, and answers the bytes written; 1, 2, 13, 14, 20,
-    /// 15, in that order.
+    /// 15, 21, in that order.
     pub fn write(&self, justified: u8, form: u8, buffer: &mut [u8], at: usize) -> Result<usize, Refusal> {
         self.opened()?;
         let form = Form::numbered(form)?;
-        let report = self.report(justified)?;
-        let foot = Foot { vessel: self.vessel, justified, length: self.length, report };
-        form.write(self.standing(), foot, buffer, at)
+        let reckoning = self.reckon(justified)?;
+        let room = form.room(self.standing(), self.vessel, buffer, at)?;
+        let foot = Foot { vessel: self.vessel, justified, length: self.length, report: reckoning.report()? };
+        Ok(form.write(self.standing(), foot, room))
     }
 
     /// Reads the last sheet of a file into this one, which is open then, with no open changes; refused, it is closed: 16, 17, 13, 14,
-    /// 18, in that order.
+    /// 21, 18, in that order.
     pub fn read(&mut self, file: &[u8]) -> Result<Read, Unread> {
         self.close();
         let Last { form, start, count, foot, .. } = Last::judged(file, &mut self.spaces)?;
@@ -79,7 +80,9 @@ pub fn move_last(from: &[u8], form: u8, to: &mut [u8], at: usize) -> Result<usiz
     let form = Form::numbered(form)?;
     let mut spaces = [Space::NONE; PLACES];
     let last = Last::judged(from, &mut spaces)?;
-    Ok(form.write(&spaces[..last.count], last.foot, to, at)?)
+    let spaces = &spaces[..last.count];
+    let room = form.room(spaces, last.foot.vessel, to, at)?;
+    Ok(form.write(spaces, last.foot, room))
 }
 
 /// What stands behind the records of a sheet.
@@ -116,14 +119,25 @@ impl Form {
         (self.vessel_size != 0 || vessel == 0) && (self.deck_size != 0 || no_deck())
     }
 
-    /// Writes a sheet from a place of the buffer on; 20, 15.
-    fn write(&self, spaces: &[Space], foot: Foot, buffer: &mut [u8], at: usize) -> Result<usize, Refusal> {
-        if !self.fits(spaces, foot.vessel) {
+    /// The room that a sheet takes from a place of the buffer on; 20, 15.
+    fn room<'a>(
+        &self,
+        spaces: &[Space],
+        vessel: u32,
+        buffer: &'a mut [u8],
+        at: usize,
+    ) -> Result<&'a mut [u8], Refusal> {
+        if !self.fits(spaces, vessel) {
             return Err(Refusal::NumberLost);
         }
         let size = self.size_of_sheet(spaces.len());
         let room = buffer.get_mut(at..).and_then(|from_there| from_there.get_mut(..size));
-        let (records, behind) = room.ok_or(Refusal::TooLittleRoom)?.split_at_mut(self.record_size() * spaces.len());
+        room.ok_or(Refusal::TooLittleRoom)
+    }
+
+    /// Writes a sheet into the room that it takes, and answers the bytes written.
+    fn write(&self, spaces: &[Space], foot: Foot, room: &mut [u8]) -> usize {
+        let (records, behind) = room.split_at_mut(self.record_size() * spaces.len());
         for (record, space) in records.chunks_exact_mut(self.record_size()).zip(spaces) {
             let (first, deck) = record.split_at_mut(size_of::<Record>());
             first.copy_from_slice(&record_of(space));
@@ -132,7 +146,7 @@ impl Form {
         let (vessel, trailer) = behind.split_at_mut(self.vessel_size);
         put(vessel, foot.vessel);
         trailer.copy_from_slice(&self.trailer_of(spaces.len(), foot));
-        Ok(size)
+        room.len()
     }
 
     fn trailer_of(&self, count: usize, foot: Foot) -> Trailer {
@@ -158,12 +172,12 @@ struct Last<'a> {
 }
 
 impl Last<'_> {
-    /// The last sheet, judged, and its spaces in their places; 16, 17, 13, 14, 18.
+    /// The last sheet, judged, and its spaces in their places; 16, 17, 13, 14, 21, 18.
     fn judged<'a>(file: &'a [u8], spaces: &mut [Space; PLACES]) -> Result<Last<'a>, Unread> {
         let last = Last::of(file).ok_or(Refusal::NoSheet)?;
         let Foot { justified, length, report, .. } = last.foot;
         last.enter_records(spaces)?;
-        if gross::report(&spaces[..last.count], length, justified == 1)? != report {
+        if gross::reckon(&spaces[..last.count], length, justified == 1)?.report()? != report {
             return Err(Refusal::WrongSums.into());
         }
         Ok(last)

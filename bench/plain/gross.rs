@@ -1,4 +1,4 @@
-//! Gross and net, in hundredths of a ton ("Gross and net").
+//! Gross and net, in hundredths of a ton ("Gross and net"; "Vessels with screws", T-06 of document 02).
 use super::measure::{nearest, Kind};
 use super::rules::{Space, Standing};
 use super::Refusal;
@@ -7,6 +7,20 @@ use super::Refusal;
 pub struct Report {
     pub gross: u64,
     pub net: u64,
+}
+
+/// Gross, and all that is deducted from it.
+pub struct Reckoning {
+    gross: u64,
+    deductions: u64,
+}
+
+impl Reckoning {
+    /// Gross and net, or refusal 21.
+    pub fn report(self) -> Result<Report, Refusal> {
+        let net = self.gross.checked_sub(self.deductions).ok_or(Refusal::DeductionsPass)?;
+        Ok(Report { gross: self.gross, net })
+    }
 }
 
 /// The sums over the standing spaces.
@@ -18,6 +32,7 @@ struct Sums {
     exempt: u64,
     ballast: u64,
     deducted: u64,
+    machinery: u64,
 }
 
 impl Sums {
@@ -33,6 +48,7 @@ impl Sums {
             sums.exempt += only(standing == Standing::Exempt, tonnage);
             sums.ballast += only(standing == Standing::Ballast, tonnage);
             sums.deducted += only(standing == Standing::Deducted, tonnage);
+            sums.machinery += only(standing == Standing::Machinery, tonnage);
         }
         sums
     }
@@ -48,8 +64,8 @@ impl Sums {
     }
 }
 
-/// Gross and net of the spaces of a sheet with a tonnage length, or refusal 13 or 14.
-pub fn report(spaces: &[Space], tonnage_length: u32, justified: bool) -> Result<Report, Refusal> {
+/// Gross and deductions of the spaces of a sheet with a tonnage length, or refusal 13 or 14.
+pub fn reckon(spaces: &[Space], tonnage_length: u32, justified: bool) -> Result<Reckoning, Refusal> {
     let sums = Sums::over(spaces);
     if sums.under_deck_lengths != u64::from(tonnage_length) {
         return Err(Refusal::LengthsDiffer);
@@ -58,5 +74,17 @@ pub fn report(spaces: &[Space], tonnage_length: u32, justified: bool) -> Result<
         return Err(Refusal::NotJustified);
     }
     let gross = sums.gross_over(sums.hull - sums.exempt - sums.ballast);
-    Ok(Report { gross, net: gross - sums.deducted })
+    Ok(Reckoning { gross, deductions: sums.deducted + engine_room_deduction(sums.machinery, gross) })
+}
+
+/// What is deducted for machinery, by the three classes of 69.121(e)(2); in the third, where the owner may elect, the greater.
+fn engine_room_deduction(machinery: u64, gross: u64) -> u64 {
+    let share_of_gross = nearest(32 * gross, 100);
+    if 100 * machinery <= 13 * gross {
+        nearest(32 * machinery, 13)
+    } else if 100 * machinery < 20 * gross {
+        share_of_gross
+    } else {
+        share_of_gross.max(nearest(7 * machinery, 4))
+    }
 }

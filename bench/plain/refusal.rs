@@ -24,5 +24,6 @@ pub enum Refusal {
     WrongSums,
     PointedWithArea,
     NumberLost,
+    DeductionsPass,
     NoM = 29,
 }

@@ -12,6 +12,7 @@ pub enum Standing {
     Exempt,
     Ballast,
     Deducted,
+    Machinery,
 }
 
 /// A space as it stands: 16 bytes, since a sheet is 200 of them, and copied often.
@@ -45,6 +46,7 @@ impl Standing {
             1 => Some(Standing::Exempt),
             2 => Some(Standing::Ballast),
             3 => Some(Standing::Deducted),
+            4 => Some(Standing::Machinery),
             _ => None,
         }
     }

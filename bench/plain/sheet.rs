@@ -1,5 +1,5 @@
 //! The sheet and its changes, made in place ("The sheet and its changes").
-use super::gross::{self, Report};
+use super::gross::{self, Reckoning, Report};
 use super::history::{Change, History};
 use super::measure::{is_tonnage_length, measured, End, Kind, Measured, Roundings};
 use super::rules::{
@@ -157,13 +157,10 @@ impl Sheet {
         Counts { undoable: self.history.undoable, redoable: self.history.redoable }
     }
 
-    /// Gross and net; `justified` is 1 where the surveyor justifies the water ballast, else 0; 1, 2, 13, 14.
+    /// Gross and net; `justified` is 1 where the surveyor justifies the water ballast, else 0; 1, 2, 13, 14, 21.
     pub fn report(&self, justified: u8) -> Result<Report, Refusal> {
         self.opened()?;
-        if justified > 1 {
-            return Err(Refusal::OutsideItsRange);
-        }
-        gross::report(self.standing(), self.length, justified == 1)
+        self.reckon(justified)?.report()
     }
 
     pub fn is_open(&self) -> bool {
@@ -191,6 +188,14 @@ impl Sheet {
         } else {
             Err(Refusal::NotOpen)
         }
+    }
+
+    /// What a report works out of an open sheet, or refusal 2, 13 or 14.
+    pub(super) fn reckon(&self, justified: u8) -> Result<Reckoning, Refusal> {
+        if justified > 1 {
+            return Err(Refusal::OutsideItsRange);
+        }
+        gross::reckon(self.standing(), self.length, justified == 1)
     }
 
     fn put_last(&mut self, space: Space) {

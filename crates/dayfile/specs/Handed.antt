@@ -1,19 +1,19 @@
 -- What the functions inside the crate ask and tell one another. No promise of a public function cites anything here.
 use Prim.Native.Nat.{ℕ, _^_, _≤_, _<_}
 use mathlib.Core.Path.{_≡_}
-use mathlib.Core.Bool.{cond, _||_}
+use mathlib.Core.Bool.{Bool, cond, _||_}
 use mathlib.Core.List.{List, [], _∷_, _++_}
-use lib.Dec.{eqb}
+use lib.Dec.{eqb, ltb}
 use lib.ListN.{length}
 use Rattle.measure.specs.Refusals.{firstOf}
 use Rattle.spaces.specs.Space.{emptySpace}
 use Rattle.spaces.specs.declared.space.Space.{Space}
-use Rattle.sheet.specs.Calls.{figuresOf}
+use Rattle.sheet.specs.Calls.{testsTo14, figuresOf}
 use Rattle.sheet.specs.declared.calls.Figures.{Figures}
 use Rattle.sheet.specs.declared.sheet.Sheet.{Sheet}
 use Rattle.dayfile.specs.Numbers.{numberOf}
 use Rattle.dayfile.specs.Fields.{fitting}
-use Rattle.dayfile.specs.Forms.{isForm, formOf, lost}
+use Rattle.dayfile.specs.Forms.{formOf, lost}
 use Rattle.dayfile.specs.Record.{recordFields, records, spaceOf}
 use Rattle.dayfile.specs.Trailer.{vesselBytes, trailerBytes, sheetSize}
 use Rattle.dayfile.specs.Writing.{losesDeck, tooLittleRoom, placed}
@@ -57,31 +57,31 @@ judgedReading s t start =
 
 -- ---- writing
 
--- the number of a write by that of its report and its form: 1, 2, 13 or 14
-abbrev pub formRefusal : (report form : ℕ) → ℕ
-formRefusal report form = cond (eqb report 1) 1 (cond (isForm form) report 2)
+-- 1, 2, 13 or 14 of a write, by the number of its report and whether there is the form; 21 of a report comes later in a write
+abbrev pub formRefusal : (report : ℕ) (known : Bool) → ℕ
+formRefusal report known = cond (eqb report 1) 1 (cond known (cond (eqb report 21) 0 report) 2)
 
--- a report of the sheet is given, with these figures
+-- the figures of a report of the sheet, which none of 1, 2, 13 and 14 refuses
 pub record Reports (s : Sheet) (justified : ℕ) (r : Figures) : Type 0 where
   pub are : r ≡ figuresOf s justified
-  pub given : r .number ≡ 0
+  pub past-14 : firstOf (testsTo14 s justified (ltb 1 justified)) ≡ 0
 
--- 20, 15 or 0 of a trailer, a vessel number and the spaces that the trailer counts
-abbrev pub storeNumber : Trailer → ℕ → List Space → ℕ → ℕ → ℕ
-storeNumber t vessel xs size at =
+-- 20, 15, 21 or 0 of a trailer, a vessel number and the spaces that the trailer counts, by whether deductions pass gross
+abbrev pub storeNumber : Trailer → Bool → ℕ → List Space → ℕ → ℕ → ℕ
+storeNumber t pass vessel xs size at =
     let f = formOf (t .form) in
-    firstOf ((lost (f .vessel) vessel || losesDeck f xs, 20) ∷ (tooLittleRoom f (t .count) size at, 15) ∷ [])
+    firstOf ((lost (f .vessel) vessel || losesDeck f xs, 20) ∷ (tooLittleRoom f (t .count) size at, 15) ∷ (pass, 21) ∷ [])
 
-abbrev pub stored : Trailer → ℕ → List Space → ℕ → ℕ → Stored
-stored t vessel xs size at =
-    let n = storeNumber t vessel xs size at in
+abbrev pub stored : Trailer → Bool → ℕ → List Space → ℕ → ℕ → Stored
+stored t pass vessel xs size at =
+    let n = storeNumber t pass vessel xs size at in
     record { number = n; bytes = cond (eqb n 0) (sheetSize (formOf (t .form)) (t .count)) 0 }
 
 -- the whole buffer afterwards
-abbrev pub storedInto : Trailer → ℕ → List Space → ℕ → List ℕ → List ℕ
-storedInto t vessel xs at buffer =
+abbrev pub storedInto : Trailer → Bool → ℕ → List Space → ℕ → List ℕ → List ℕ
+storedInto t pass vessel xs at buffer =
     let f = formOf (t .form) in
-    cond (eqb (storeNumber t vessel xs (length buffer) at) 0) (placed buffer at (records f xs ++ (vesselBytes f vessel ++ trailerBytes t))) buffer
+    cond (eqb (storeNumber t pass vessel xs (length buffer) at) 0) (placed buffer at (records f xs ++ (vesselBytes f vessel ++ trailerBytes t))) buffer
 
 -- what a write answers, with the sheet handed back
 abbrev pub handedBack : Stored → Sheet → Written

@@ -66,7 +66,7 @@ lastRecords file = recordsIn (lastForm file) (lastTrailer file .count) (drop (st
 unfoldable pub faultIn : List ℕ → ℕ
 faultIn file = firstFaulty (lastForm file) (lastTrailer file .«tonnage_length») [] (lastRecords file)
 
--- ---- 13, 14 and 18
+-- ---- 13, 14, 21 and 18
 
 -- the vessel number of the last sheet
 abbrev pub lastVessel : List ℕ → ℕ
@@ -79,7 +79,7 @@ sheetIn file =
 
 abbrev pub trailerTests : Sheet → Trailer → List (Bool × ℕ)
 trailerTests s t =
-    -- 13 or 14, as a report with the trailer's mark is refused
+    -- 13, 14 or 21, as a report with the trailer's mark is refused: 21 "in reading .. stands after 14" (T-06 of document 02)
     (not (eqb (reported s (t .justified) .number) 0), reported s (t .justified) .number)
     -- 18: gross or net isn't what the records give
     ∷ (not (eqb (gross (standing s)) (t .gross)) || not (eqb (net (standing s)) (t .net)), 18)
@@ -87,7 +87,7 @@ trailerTests s t =
 
 -- ---- what reading answers
 
--- "in reading: there 16, 17, 13, 14, 18 in that order"
+-- "in reading: there 16, 17, 13, 14, 18 in that order", and 21 after 14
 unfoldable pub readNumber : List ℕ → ℕ
 readNumber file =
     firstOf
@@ -115,7 +115,7 @@ readOf file =
 abbrev pub readBefore : List ℕ → ℕ → Reading
 readBefore file start = readOf (take start file)
 
--- An accepted reading as facts: 16, 17, then 13 or 14, then 18, none of which applies, and what is answered (proofs/laws/Reading).
+-- An accepted reading as facts: 16, 17, then 13, 14 or 21, then 18, none of which applies, and what is answered (proofs/laws/Reading).
 pub record ReadingAccepted (file : List ℕ) : Type 0 where
   pub ends-in-sheet : noSheet file ≡ false
   pub no-fault : faultIn file ≡ 0

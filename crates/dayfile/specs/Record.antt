@@ -6,6 +6,7 @@ use mathlib.Core.List.{List, [], _∷_, _++_}
 use lib.ListN.{drop, getD}
 use Rattle.measure.specs.Volumes.{hundredths}
 use Rattle.spaces.specs.declared.space.Space.{Space}
+use Rattle.standard.specs.Standings.{greatestStanding}
 use Rattle.dayfile.specs.Fields.{Field, field, zeroField, widths, encoded, decoded, size}
 use Rattle.dayfile.specs.Forms.{optional}
 use Rattle.dayfile.specs.declared.forms.Form.{Form}
@@ -16,7 +17,7 @@ recordFields f =
     field 2 1 9999
     ∷ field 2 0 65535
     ∷ field 1 1 5
-    ∷ field 1 0 3
+    ∷ field 1 0 greatestStanding
     ∷ zeroField 2
     -- tonnage, "at most 100,000,000", and length
     ∷ field 4 0 100000000

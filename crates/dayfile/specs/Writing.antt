@@ -6,8 +6,8 @@ use lib.Dec.{eqb, ltb}
 use lib.ListN.{length, take, drop}
 use Rattle.measure.specs.Refusals.{firstOf}
 use Rattle.standard.specs.Gross.{gross, net}
-use Rattle.sheet.specs.Sheet.{standing, usable}
-use Rattle.sheet.specs.Calls.{reported}
+use Rattle.sheet.specs.Sheet.{standing}
+use Rattle.sheet.specs.Calls.{testsTo14, deductionsTest}
 use Rattle.spaces.specs.declared.space.Space.{Space}
 use Rattle.sheet.specs.declared.sheet.Sheet.{Sheet}
 use Rattle.dayfile.specs.Forms.{isForm, formOf, lost}
@@ -52,22 +52,20 @@ losesNumber f s = lost (f .vessel) (s .vessel) || losesDeck f (standing s)
 abbrev pub tooLittleRoom : Form → ℕ → ℕ → ℕ → Bool
 tooLittleRoom f count size at = ltb (size - at) (sheetSize f count)
 
--- the last numbers of a write and of a move, into a buffer of so many bytes from a place on: "20 .. in a write just before 15", "then 20, then
--- 15" in a move
+-- 20 and 15 of a write and of a move, into a buffer of so many bytes from a place on: "20 .. in a write just before 15", "then 20, then 15"
+-- in a move
 abbrev pub lostOrNoRoom : ℕ → Sheet → ℕ → ℕ → List (Bool × ℕ)
 lostOrNoRoom form s size at = (losesNumber (formOf form) s, 20) ∷ (tooLittleRoom (formOf form) (s .count) size at, 15) ∷ []
 
 -- the number of a write
 unfoldable pub writeNumber : Sheet → ℕ → ℕ → ℕ → ℕ → ℕ
 writeNumber s justified form size at =
-    let asReport = reported s justified .number in
     firstOf
-    ((not (usable s), 1)
-    -- 2: "a form that is neither"
-    ∷ (not (isForm form), 2)
-    -- 2, 13 or 14, as a report is refused
-    ∷ (not (eqb asReport 0), asReport)
-    ∷ lostOrNoRoom form s size at)
+    -- 1, 2, 13 and 14 as of a report, and 2 for "a form that is neither"
+    (testsTo14 s justified (ltb 1 justified || not (isForm form))
+    -- then 20 and 15; and 21, "after 15" (T-06 of document 02)
+    ++ lostOrNoRoom form s size at
+    ++ deductionsTest s)
 
 -- "a refused write 0 bytes and an untouched buffer"; no write changes the sheet
 abbrev pub writtenWith : ℕ → Sheet → ℕ → Written

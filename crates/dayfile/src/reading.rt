@@ -84,7 +84,7 @@ fn last_trailer(file: &[u8]) -> Trailer
     trailer_of(numbers)
 }
 
-// A sheet judged by its report and its trailer: 13, 14 or 18, or the sheet read.
+// A sheet judged by its report and its trailer: 13, 14, 21 or 18, or the sheet read.
 fn judged(sheet: Sheet, trailer: Trailer, start: usize) -> Reading
     ensures { λ r. ⌜ r ≡ judgedReading sheet trailer start ⌝ }
 {

@@ -10,6 +10,7 @@ use spaces::space::Space;
 use spaces::space::empty;
 use standard::records::GREATEST_TONNAGE;
 use standard::rules::GREATEST_ID;
+use standard::standings::GREATEST_STANDING;
 ghost use mathlib.Core.Path.{_≡_};
 ghost use Prim.Native.Nat.{_*_, _≤_};
 ghost use lib.ListN.{length, take};
@@ -23,11 +24,14 @@ const OLD_RECORD: usize = 16;
 
 const LEAST: [u64; 9] = [1, 0, 1, 0, 0, 0, 1, 0, 0];
 
-const MOST_ID: u64 = GREATEST_ID as u64;
+// The greatest id, standing, tonnage and deck, as numbers of a file.
+const ID: u64 = GREATEST_ID as u64;
 
-const MOST_TONS: u64 = GREATEST_TONNAGE as u64;
+const STANDING: u64 = GREATEST_STANDING as u64;
 
-const MOST_DECK: u64 = GREATEST_DECK as u64;
+const TONNAGE: u64 = GREATEST_TONNAGE as u64;
+
+const DECK: u64 = GREATEST_DECK as u64;
 
 // The bytes of a record; so few that those of 200 don't overflow.
 pub(crate) fn record_size(form: Form) -> usize
@@ -115,8 +119,8 @@ fn space_of(form: Form, numbers: [u64; 9]) -> Space
     ensures { λ r. ⌜ r ≡ readAs form numbers ⌝ }
 {
     let least = LEAST;
-    let deck = greatest_in(form.deck, MOST_DECK);
-    let greatest = [MOST_ID, 65_535, 5, 3, 0, MOST_TONS, 150_000, deck, 0];
+    let deck = greatest_in(form.deck, DECK);
+    let greatest = [ID, 65_535, 5, STANDING, 0, TONNAGE, 150_000, deck, 0];
     if in_ranges(&numbers, &least, &greatest) {
         return Space {
             id: numbers[0] as u16,

@@ -13,6 +13,7 @@ use crate::trailer::write_end;
 use measure::refusals::OUTSIDE_ITS_RANGE;
 use sheet::Figures;
 use sheet::Sheet;
+use sheet::refusals::DEDUCTIONS_PASS;
 use sheet::refusals::NOT_OPEN;
 use spaces::space::Space;
 ghost use mathlib.Core.Path.{_≡_};
@@ -63,9 +64,9 @@ fn write_sheet(sheet: Sheet, justified: u8, form: u8, buf: &mut [u8], at: usize)
     store_sheet(sheet, justified, form, figures, buf, at)
 }
 
-// 1, 2, 13 or 14 of a write, by the number of its report and its form.
+// 1, 2, 13 or 14 of a write, by the number of its report and its form; 21 comes later in a write.
 fn form_refusal(report: u8, form: u8) -> u8
-    ensures { λ r. ⌜ r ≡ formRefusal report form ⌝ }
+    ensures { λ r. ⌜ r ≡ formRefusal report (isForm form) ⌝ }
 {
     if report == NOT_OPEN {
         return NOT_OPEN;
@@ -73,10 +74,13 @@ fn form_refusal(report: u8, form: u8) -> u8
     if !is_form(form) {
         return OUTSIDE_ITS_RANGE;
     }
+    if report == DEDUCTIONS_PASS {
+        return 0;
+    }
     report
 }
 
-// What is left of a write of a sheet, whose report is given with these figures, in a form that there is.
+// What is left of a write of a sheet, with the figures of its report, which none of 1, 2, 13 and 14 refuses, in a form that there is.
 pub(crate) fn store_sheet(
     sheet: Sheet,
     justified: u8,
@@ -97,15 +101,30 @@ pub(crate) fn store_sheet(
         gross: figures.gross,
         net: figures.net,
     };
-    store(trailer, sheet.vessel(), sheet.places(), buf, at)
+    let deductions_pass = figures.number == DEDUCTIONS_PASS;
+    store(
+        trailer,
+        deductions_pass,
+        sheet.vessel(),
+        sheet.places(),
+        buf,
+        at,
+    )
 }
 
-// Writes the records of the spaces that a trailer counts, the vessel number and the trailer, unless a number would be lost or there is
-// too little room.
-fn store(trailer: Trailer, vessel: u32, spaces: [Space; 200], buf: &mut [u8], at: usize) -> Stored
+// Writes the records of the spaces that a trailer counts, the vessel number and the trailer, unless a number would be lost, there is
+// too little room, or deductions pass gross.
+fn store(
+    trailer: Trailer,
+    deductions_pass: bool,
+    vessel: u32,
+    spaces: [Space; 200],
+    buf: &mut [u8],
+    at: usize,
+) -> Stored
     requires { ⌜ trailer .count ≤ 200 ⌝ }
-    ensures answer { λ r. ⌜ r ≡ stored trailer vessel (take (trailer .count) spaces) (length (now (buf .entry))) at ⌝ }
-    ensures buffer { λ _. ⌜ now (buf .exit) ≡ storedInto trailer vessel (take (trailer .count) spaces) at (now (buf .entry)) ⌝ }
+    ensures answer { λ r. ⌜ r ≡ stored trailer «deductions_pass» vessel (take (trailer .count) spaces) (length (now (buf .entry))) at ⌝ }
+    ensures buffer { λ _. ⌜ now (buf .exit) ≡ storedInto trailer «deductions_pass» vessel (take (trailer .count) spaces) at (now (buf .entry)) ⌝ }
 {
     let form = form_of(trailer.form);
     let count = trailer.count;
@@ -117,6 +136,9 @@ fn store(trailer: Trailer, vessel: u32, spaces: [Space; 200], buf: &mut [u8], at
     }
     if short {
         return refused(NO_ROOM);
+    }
+    if deductions_pass {
+        return refused(DEDUCTIONS_PASS);
     }
     write_records(&mut buf[at..], form, spaces, count);
     let end = at + record_size(form) * count;

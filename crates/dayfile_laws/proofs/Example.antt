@@ -12,7 +12,8 @@ use Rattle.measure.specs.Ranges.{includes}
 use Rattle.measure.specs.Allowances.{hatchwayAllowance, hatchwayExcess, ballastOver}
 use Rattle.standard.specs.Standings.{mayTake}
 use Rattle.spaces.specs.Enclosure.{above}
-use Rattle.standard.specs.Gross.{grossOver, gross, net, needsMark}
+use Rattle.standard.specs.Machinery.{engineRoomDeduction}
+use Rattle.standard.specs.Gross.{grossOver, gross, deductions, net, deductionsPass, needsMark}
 use Rattle.sheet.specs.Sheet.{standing, usable, blank}
 use Rattle.sheet.specs.Calls.{reported}
 use Rattle.standard.specs.Records.{recordNumber}
@@ -47,7 +48,7 @@ resumes =
 
 -- "GROSS 124.39", "NET 121.19"
 pub whole-report : reported wholeSheet 0 ≡ record { number = 0; gross = 12439; net = 12119; sheet = wholeSheet }
-unfolding nearest hatchwayAllowance hatchwayExcess ballastOver grossOver gross net needsMark usable blank reported
+unfolding nearest hatchwayAllowance hatchwayExcess ballastOver engineRoomDeduction grossOver gross deductions net deductionsPass needsMark usable blank reported
 whole-report = refl
 
 pub whole-sheet-writable : (form : ℕ) → isForm form ≡ true → losesNumber (formOf form) wholeSheet ≡ false → Writable wholeSheet 0 form

@@ -22,9 +22,10 @@ use Rattle.standard.specs.Standings.{mayTake}
 use Rattle.standard.specs.Gross.{gross, net}
 use Rattle.spaces.specs.declared.space.Space.{Space}
 use Rattle.spaces.proofs.laws.Cases.{by-test, not-both, or-fails}
-use Rattle.standard.proofs.laws.Standings.{kind-outside, standing-outside}
+use Rattle.standard.proofs.laws.Standings.{kind-outside}
 use Rattle.spaces_laws.proofs.Tests.{and-fails}
 use Rattle.spaces_laws.proofs.Lists.{_∈_, found-stands}
+use Rattle.spaces_laws.proofs.Standings.{standing-at-most}
 use Rattle.spaces_laws.proofs.Valid.{Sound, valid-is-sound}
 use Rattle.spaces_laws.proofs.Report.{net-at-most-gross, gross-bounded}
 use Rattle.standard.specs.Records.{misrecorded}
@@ -50,7 +51,7 @@ pub in-range : (r : Range) (x : ℕ) → includes r x ≡ true → (r .least ≤
 unfolding includes
 in-range r x e = (leb-true _ _ (and-left (leb (r .least) x) _ e), includes-most r x e)
 
--- the rows and columns of the table of standings
+-- the rows of the table of standings
 kind-at-least : (kind taken : ℕ) → mayTake kind taken ≡ true → 1 ≤ kind
 unfolding mayTake
 kind-at-least zero taken e = not-both e refl
@@ -59,10 +60,6 @@ kind-at-least (suc kind) taken e = omega arith
 kind-at-most : (kind taken : ℕ) → mayTake kind taken ≡ true → kind ≤ 5
 kind-at-most kind taken e =
     by-test (ltb 5 kind) (λ t. not-both e (kind-outside kind taken (ltb-true _ _ t))) (λ f. ltb-false _ _ f)
-
-standing-at-most : (kind taken : ℕ) → mayTake kind taken ≡ true → taken ≤ 3
-standing-at-most kind taken e =
-    by-test (ltb 3 taken) (λ t. not-both e (standing-outside kind taken (ltb-true _ _ t))) (λ f. ltb-false _ _ f)
 
 -- what `misrecorded` leaves of one that an entry could have made
 record RightlyRecorded (x : Space) : Type 0 where

@@ -12,7 +12,10 @@ use Rattle.measure.proofs.laws.Volumes.{at-most-take, at-most-drop}
 use Rattle.spaces.specs.Space.{allRecorded}
 use Rattle.spaces.specs.declared.space.Space.{Space}
 use Rattle.spaces_laws.proofs.Tests.{or-fails-of}
+use Rattle.measure.specs.declared.units.Hundredths.{Hundredths}
+use Rattle.standard.specs.Gross.{gross, net}
 use Rattle.sheet.specs.Sheet.{standing}
+use Rattle.sheet.specs.declared.sheet.Sheet.{Sheet}
 use Rattle.standard.specs.Records.{firstRefused}
 use Rattle.sheet_laws.proofs.Resumable.{resumable-exactly, OfRecords}
 use Rattle.dayfile.specs.Numbers.{Bytes, bytesOf, numberOf}
@@ -24,7 +27,6 @@ use Rattle.dayfile.specs.Reading.{lastNumbers, lastTrailer, lastForm, startOf, 
 use Rattle.dayfile.specs.declared.forms.Form.{Form}
 use Rattle.dayfile.proofs.laws.Forms.{narrow-vessel}
 use Rattle.dayfile.proofs.laws.Trailer.{tells-form, tonnage-length-fits}
-use Rattle.dayfile.proofs.laws.Writing.{trailer-is}
 use Rattle.dayfile.proofs.laws.Reading.{Framed, framed, count-fits, judged, reading-accepted, no-m}
 use Rattle.dayfile_laws.specs.Writing.{Writes}
 use Rattle.dayfile_laws.specs.Day.{ResumableSheet, Writable, sheetWith}
@@ -40,6 +42,11 @@ use Rattle.dayfile_laws.proofs.WrittenRead.{has-places}
 pub length-spaces : (f : Form) (n : ℕ) (bytes : List ℕ) → length (spacesOf (recordsIn f n bytes)) ≡ n
 length-spaces f zero bytes = refl
 length-spaces f (suc n) bytes = ap suc (length-spaces f n (drop (recordSize f) bytes))
+
+-- a trailer with the numbers of a sheet is the sheet's
+trailer-is : (s : Sheet) (justified form n g m : ℕ) (l : Hundredths) → n ≡ s .count → l ≡ s .length → g ≡ gross (standing s) → m ≡ net (standing s)
+    → record { count = n; justified = justified; form = form; «tonnage_length» = l; gross = g; net = m } ≡ trailerFor s justified form
+trailer-is s justified form n g m l e₁ e₂ e₃ e₄ = rw (e₁, e₂, e₃, e₄)
 
 module _ (file : List ℕ) (a : ReadingAccepted file) where
   frame : Framed file

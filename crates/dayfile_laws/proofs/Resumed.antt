@@ -57,4 +57,5 @@ unfolding reported
 same-report a b justified ua ub es el =
     let lengths = ap (λ (r : Reckoning). r .lengths) es in
     let mark = ap (λ (r : Reckoning). r .«needs_mark») es in
-    rw (ua, ub, lengths, mark, el)
+    let pass = ap (λ (r : Reckoning). r .«deductions_pass») es in
+    rw (ua, ub, lengths, mark, pass, el)

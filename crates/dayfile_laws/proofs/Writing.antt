@@ -1,22 +1,26 @@
 -- What a write does to a buffer, accepted or refused: "no byte before or after is touched". Stands on nothing of the file's numbers.
 use Prim.Native.Nat.{ℕ, _+_, _-_, _≤_}
 use mathlib.Core.Path.{_≡_, refl, sym, ap, _∙_}
-use mathlib.Core.Bool.{true, false, not}
+use mathlib.Core.Bool.{true, false, not, _||_}
 use mathlib.Core.List.{List, [], _∷_, _++_, append-assoc}
 use native.Mathlib.Omega.{arith}
-use borrow.Author.Tests.{not-false, eq-eqb, ne-eqb, eqb-true, eqb-false, le-ltb, ltb-false}
-use lib.Dec.{eqb}
+use borrow.Author.Tests.{eq-eqb, ne-eqb, eqb-true, eqb-false, le-ltb, ltb-false}
+use lib.Dec.{eqb, ltb}
 use lib.ListN.{length, take, drop, length-append, length-drop}
 use lib.Seq.{length-take-le, take-at, drop-at}
 use Rattle.spaces.proofs.laws.Cases.{by-test}
-use Rattle.sheet.specs.Sheet.{usable}
-use Rattle.sheet.specs.Calls.{reported}
+use Rattle.measure.specs.Refusals.{firstOf}
+use Rattle.measure.proofs.laws.Refusals.{spliced}
+use Rattle.standard.specs.Gross.{deductionsPass}
+use Rattle.sheet.specs.Sheet.{standing}
+use Rattle.sheet.specs.Calls.{testsTo14, deductionsTest, reported}
 use Rattle.sheet.specs.declared.sheet.Sheet.{Sheet}
 use Rattle.sheet.proofs.laws.Calls.{passed, after-call}
+use Rattle.sheet.proofs.laws.Report.{tests-numbered, past-14}
 use Rattle.dayfile.specs.Forms.{isForm, formOf}
 use Rattle.dayfile.specs.Trailer.{sheetSize}
 use Rattle.dayfile.specs.Writing.{sheetBytes, losesNumber, tooLittleRoom, lostOrNoRoom, writeNumber, written, placed, writtenInto}
-use Rattle.dayfile.proofs.laws.Writing.{length-sheet, reported-number}
+use Rattle.dayfile.proofs.laws.Writing.{length-sheet, within-form, number-reported}
 use Rattle.dayfile_laws.specs.Writing.{Untouched, WriteAccepted, Puts, Writes}
 
 -- ---- bytes placed in a buffer
@@ -57,18 +61,20 @@ module _ (s : Sheet) (justified form at : ℕ) (buffer : List ℕ) where
   pub write-accepted : written s justified form (length buffer) at .number ≡ 0 → WriteAccepted s justified form at buffer
   unfolding writeNumber written writtenInto
   write-accepted e =
-      let report = reported s justified .number in
+      let outside = ltb 1 justified || not (isForm form) in
+      let tests = testsTo14 s justified outside in
       let short = tooLittleRoom (formOf form) (s .count) (length buffer) at in
-      let end = lostOrNoRoom form s (length buffer) at in
-      let one = passed (not (usable s)) 1 ((not (isForm form), 2) ∷ (not (eqb report 0), report) ∷ end) e (λ z. omega arith) in
-      let two = passed (not (isForm form)) 2 ((not (eqb report 0), report) ∷ end) (one .1) (λ z. omega arith) in
-      let r = after-call report end (two .1) in
-      let lost-none = passed (losesNumber (formOf form) s) 20 ((short, 15) ∷ []) (r .1) (λ z. omega arith) in
-      let fits : sheetSize (formOf form) (s .count) ≤ length buffer - at = ltb-false _ _ (passed short 15 [] (lost-none .1) (λ z. omega arith) .0) in
+      let last = lostOrNoRoom form s (length buffer) at ++ deductionsTest s in
+      let fourteen = after-call (firstOf tests) last (spliced tests last (tests-numbered s justified outside) ∙ e) in
+      let reported-in = within-form s justified form (fourteen .0) in
+      let lost-none = passed (losesNumber (formOf form) s) 20 ((short, 15) ∷ deductionsTest s) (fourteen .1) (λ z. omega arith) in
+      let fifteen = passed short 15 (deductionsTest s) (lost-none .1) (λ z. omega arith) in
+      let within = passed (deductionsPass (standing s)) 21 [] (fifteen .1) (λ z. omega arith) .0 in
+      let fits : sheetSize (formOf form) (s .count) ≤ length buffer - at = ltb-false _ _ (fifteen .0) in
       let zero = eq-eqb (writeNumber s justified form (length buffer) at) 0 e in
       record {
-        reports = r .0;
-        known = not-false (isForm form) (two .0);
+        reports = past-14 s justified (reported-in .0) ∙ rw within;
+        known = reported-in .1;
         none-lost = lost-none .0;
         room = omega (arith, fits);
         bytes-are = rw zero;
@@ -90,7 +96,7 @@ module _ (s : Sheet) (justified form at : ℕ) (buffer : List ℕ) where
       let size = length-sheet s justified form places in
       let fits : sheetSize (formOf form) (s .count) ≤ length buffer - at = omega (arith, size, h) in
       let enough = le-ltb (length buffer - at) (sheetSize (formOf form) (s .count)) fits in
-      accepted-puts places (reported-number s justified form at buffer reports known ∙ rw (none-lost, enough))
+      accepted-puts places (number-reported s justified form (length buffer) at reports known ∙ rw (none-lost, enough))
 
 -- ---- every write
 

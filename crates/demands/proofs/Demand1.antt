@@ -22,12 +22,15 @@ use Rattle.measure.specs.Tanks.{tankInRange, layOutNumber, laidOut}
 use Rattle.measure.proofs.laws.Refusals.{spliced}
 use Rattle.standard.specs.Rules.{entryTests}
 use Rattle.standard.specs.Tanks.{tankTests, tankNumber}
+use Rattle.standard.specs.Gross.{deductionsPass}
+use Rattle.spaces_laws.specs.Gross.{DeductionsPass}
+use Rattle.spaces_laws.proofs.Report.{deductions-pass-exactly}
 use Rattle.spaces_laws.proofs.Tanks.{tank-never-7, tank-never-8, none-without-m}
 use Rattle.spaces.specs.declared.space.Space.{Space}
 use Rattle.spaces.proofs.laws.Cases.{by-test}
 use Rattle.sheet.specs.Sheet.{standing, usable, blank, vesselOf}
 use Rattle.sheet.specs.Ends.{pointedWithArea, PointedWithArea}
-use Rattle.sheet.specs.Calls.{spaceOf, outOfRange, misstated, openedWith, entered, withdrawn, marked, undone, redone, counted, reported}
+use Rattle.sheet.specs.Calls.{spaceOf, outOfRange, misstated, lengthsShort, ballastUnjustified, openedWith, entered, withdrawn, marked, undone, redone, counted, reported}
 use Rattle.standard.specs.Records.{recordNumber, firstRefused}
 use Rattle.sheet.specs.Resume.{resumed}
 use Rattle.sheet.specs.declared.sheet.Sheet.{Sheet}
@@ -53,7 +56,7 @@ use Rattle.dayfile_laws.proofs.Lost.{loses-exactly}
 use Rattle.dayfile_laws.proofs.ReadWritten.{length-spaces}
 use Rattle.demands.specs.Reached.{DayCall, call, write, handedBack, numberOf, Begun, Reached}
 use Rattle.demands.specs.Tests.{FirstGiven, Applies, LowestGiven}
-use Rattle.demands.specs.Refusals.{openTests, enterTests, enterTankTests, layOutTests, withdrawalTests, markingTests, undoTests, redoTests, lengthsShort, ballastUnjustified, reportTests, writeTests, figuresWrong, readTests, moveTests, recordTests, Given17, NothingRead, NothingMoved}
+use Rattle.demands.specs.Refusals.{openTests, enterTests, enterTankTests, layOutTests, withdrawalTests, markingTests, undoTests, redoTests, reportTests, writeTests, figuresWrong, readTests, moveTests, recordTests, Given17, NothingRead, NothingMoved}
 use Rattle.demands.proofs.Reached.{begun-without-m, reached-resumable}
 use Rattle.demands.proofs.Tests.{first-given, refusal-applies, lowest-given, never-given, applies-last, either}
 
@@ -182,28 +185,10 @@ pub report-refused : (s : Sheet) (justified : ℕ) → LowestGiven (reportTests 
 unfolding reported
 report-refused s justified = lowest-given (reportTests s justified) (omega arith)
 
--- 2 for the form at its place among the numbers of a report
-with-form : (closed mark known short ballast : Bool) (rest : List (Bool × ℕ))
-    → (let r = firstOf ((closed, 1) ∷ (mark, 2) ∷ (short, 13) ∷ (ballast, 14) ∷ []) in
-    firstOf ((closed, 1) ∷ (not known, 2) ∷ (not (eqb r 0), r) ∷ rest)
-    ≡ firstOf ((closed, 1) ∷ (mark || not known, 2) ∷ (short, 13) ∷ (ballast, 14) ∷ rest))
-with-form true mark known short ballast rest = refl
-with-form false true true short ballast rest = refl
-with-form false true false short ballast rest = refl
-with-form false false true true ballast rest = refl
-with-form false false true false true rest = refl
-with-form false false true false false rest = refl
-with-form false false false true ballast rest = refl
-with-form false false false false true rest = refl
-with-form false false false false false rest = refl
-
 -- in that order, since 20 comes "in a write just before 15"
 pub write-refused : (s : Sheet) (justified form size at : ℕ) → FirstGiven (writeTests s justified form size at) (written s justified form size at .number)
-unfolding written writeNumber reported
-write-refused s justified form size at =
-    let same : written s justified form size at .number ≡ firstOf (writeTests s justified form size at) =
-    with-form (not (usable s)) (ltb 1 justified) (isForm form) (lengthsShort s) (ballastUnjustified s justified) (lostOrNoRoom form s size at) in
-    rw same (first-given (writeTests s justified form size at) (omega arith))
+unfolding written writeNumber
+write-refused s justified form size at = first-given (writeTests s justified form size at) (omega arith)
 
 -- `resume`, by which reading makes its sheet, judges each record after those before it
 pub record-refused : (L : Hundredths) (before : List Space) (x : Space) → LowestGiven (recordTests L before x) (recordNumber L before x)
@@ -250,19 +235,20 @@ pub record-never-19 : (L : Hundredths) (before : List Space) (x : Space) → rec
 record-never-19 L before x z =
     never-given refl (record-refused L before x .refused-exactly 19 (omega arith) .0 z .0)
 
-with-17 : (a b c d e : Bool) → firstOf ((a, 16) ∷ (b, 17) ∷ (c, 13) ∷ (d, 14) ∷ (e, 18) ∷ []) ≡ 17 → (a ≡ false) × (b ≡ true)
-with-17 true b c d e z = absurd (omega arith)
-with-17 false true c d e z = (refl, refl)
-with-17 false false true d e z = absurd (omega arith)
-with-17 false false false true e z = absurd (omega arith)
-with-17 false false false false true z = absurd (omega arith)
-with-17 false false false false false z = absurd (omega arith)
+with-17 : (a b c d e f : Bool) → firstOf ((a, 16) ∷ (b, 17) ∷ (c, 13) ∷ (d, 14) ∷ (e, 21) ∷ (f, 18) ∷ []) ≡ 17 → (a ≡ false) × (b ≡ true)
+with-17 true b c d e f z = absurd (omega arith)
+with-17 false true c d e f z = (refl, refl)
+with-17 false false true d e f z = absurd (omega arith)
+with-17 false false false true e f z = absurd (omega arith)
+with-17 false false false false true f z = absurd (omega arith)
+with-17 false false false false false true z = absurd (omega arith)
+with-17 false false false false false false z = absurd (omega arith)
 
 after-16 : (file : List ℕ) → readOf file .number ≡ 17 → (noSheet file ≡ false) × (not (eqb (faultIn file) 0) ≡ true)
 after-16 file z =
     let s = sheetIn file in
     let fault = not (eqb (faultIn file) 0) in
-    with-17 (noSheet file) fault (lengthsShort s) (ballastUnjustified s (lastTrailer file .justified)) (figuresWrong file)
+    with-17 (noSheet file) fault (lengthsShort s) (ballastUnjustified s (lastTrailer file .justified)) (deductionsPass (standing s)) (figuresWrong file)
     (sym (answered-number file ∙ read-number file) ∙ z)
 
 faults-exactly : (file : List ℕ) → FaultExactly (lastForm file) (lastTrailer file .«tonnage_length») (lastRecords file) (faultIn file)
@@ -315,6 +301,10 @@ move-never-1 file form size at z =
 -- 20 "where a move or write in form 1 would lose a number": the vessel number, or the deck of a standing space, isn't 0
 pub lost-exactly : (form : ℕ) (s : Sheet) → isForm form ≡ true → (losesNumber (formOf form) s ≡ true) ↔ LosesNumber form s
 lost-exactly = loses-exactly
+
+-- 21 "when deductions pass gross": D and the deduction for machinery together, as 69.121(e)(2) gives it
+pub pass-exactly : (s : Sheet) → (deductionsPass (standing s) ≡ true) ↔ DeductionsPass (standing s)
+pass-exactly s = deductions-pass-exactly (standing s)
 
 -- ---- "changes neither sheet nor buffer"
 

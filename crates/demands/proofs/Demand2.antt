@@ -41,9 +41,12 @@ use Rattle.spaces.proofs.laws.Cases.{by-test}
 use Rattle.standard.specs.Rules.{entryNumber}
 use Rattle.standard.specs.Tanks.{underDeckWith}
 use Rattle.standard.specs.Records.{misrecorded}
-use Rattle.spaces.specs.declared.sums.Amount.the-variants.{Deducted}
+use Rattle.standard.specs.Machinery.{engineRoomDeduction}
+use Rattle.standard.specs.Gross.{gross, deductions}
+use Rattle.spaces.specs.declared.sums.Amount.the-variants.{Machinery}
 use Rattle.spaces_laws.proofs.Valid.{valid-is-sound}
-use Rattle.spaces_laws.proofs.Report.{report-exact, gross-exactly}
+use Rattle.spaces_laws.proofs.Machinery.{deduction-exactly}
+use Rattle.spaces_laws.proofs.Report.{net-and-deductions, gross-exactly}
 use Rattle.spaces_laws.proofs.Tests.{and-fails}
 use Rattle.spaces_laws.proofs.Tanks.{facts-of-tank, measurable-there, tank-is-room}
 use Rattle.sheet.specs.Sheet.{standing}
@@ -330,13 +333,17 @@ tank-entered-last {s} r k depths breadths z =
 
 pub gross-and-net : {s : Sheet} → Reached s → (justified : ℕ) → reported s justified .number ≡ 0
     → GrossAndNet (standing s) (reported s justified .gross) (reported s justified .net)
+unfolding deductions
 gross-and-net {s} r justified z =
     let v = reached-resumable r .resumable .valid in
     let told = given s justified (reported s justified) refl z in
+    let xs = standing s in
+    let m = sumOf Machinery xs in
     record {
       gross-is = gross-exactly v (reported s justified .gross) .0 (sym (told .gross-is));
-      net-is =
-          ap (λ (n : ℕ). n + sumOf Deducted (standing s)) (told .net-is) ∙ report-exact v .gross-less-deducted ∙ sym (told .gross-is);
+      deduction = engineRoomDeduction m (gross xs);
+      deduction-is = deduction-exactly m (reported s justified .gross) _ .0 (ap (engineRoomDeduction m) (told .gross-is));
+      net-is = omega (arith, told .net-is, told .gross-is, net-and-deductions xs (told .none-pass));
     }
 
 -- ---- both round trips, over the form

@@ -13,21 +13,24 @@ use lib.Dec.{eqb}
 use Rattle.measure.specs.declared.units.Hundredths.{Hundredths}
 use Rattle.spaces.specs.Space.{isPlain}
 use Rattle.spaces.specs.Row.{sumOf}
-use Rattle.standard.specs.Gross.{allExempt}
+use Rattle.standard.specs.Gross.{deductions}
 use Rattle.spaces.specs.declared.space.Space.{Space}
-use Rattle.spaces.specs.declared.sums.Amount.the-variants.{Hull, Deducted}
+use Rattle.spaces.specs.declared.sums.Amount.the-variants.{Hull}
 use Rattle.spaces.proofs.laws.Cases.{by-test}
 use Rattle.spaces_laws.specs.Above.{_∈_, Above}
+use Rattle.spaces_laws.specs.Gross.{takenOff, WithoutMachinery}
 use Rattle.sheet.specs.Sheet.{standing, vesselOf}
 use Rattle.sheet.specs.Calls.{openedWith, undone, redone, reported}
 use Rattle.sheet.specs.declared.sheet.Sheet.{Sheet}
 use Rattle.sheet_laws.specs.Run.{replay, logOf, countsOf}
 use Rattle.sheet_laws.specs.Holds.{RefusedAtNil, Holds}
+use Rattle.sheet_laws.specs.AsBefore.{ReportAsBefore}
+use Rattle.sheet_laws.proofs.AsBefore.{report-as-before}
 use Rattle.sheet_laws.proofs.Runs.{vessel-kept}
 use Rattle.sheet_laws.proofs.Resumable.{opened-of-records, opened-vessel}
 use Rattle.sheet_laws.proofs.AnyRun.{after-any-run-from-records}
 use Rattle.demands.specs.Reached.{Begun, DayCall, afterDay, withoutWrites, Reached, reached}
-use Rattle.demands.proofs.Reached.{begun-of-records, writes-change-nothing}
+use Rattle.demands.proofs.Reached.{begun-of-records, writes-change-nothing, reached-resumable}
 
 -- for every list of calls, reports, counts and writes among them. The log of changes has no bound
 pub after-any-run : {L : Hundredths} {start : List Space} {first : Sheet} → Begun L start first → (calls : List DayCall)
@@ -74,16 +77,21 @@ pub neither-above : {s : Sheet} → Reached s → (y z : Space) → y ∈ standi
     → (Above (standing s) y z → ⊥) × (Above (standing s) z y → ⊥)
 neither-above (reached begun calls) = after-any-run begun calls .neither-above
 
--- "and E + D is not more than T."
-pub taken-off-at-most-whole : {s : Sheet} → Reached s → allExempt (standing s) + sumOf Deducted (standing s) ≤ sumOf Hull (standing s)
+-- "and E + D is not more than T"; since T-06 of document 02 it "asks that E + D + M is not more than T"
+pub taken-off-at-most-whole : {s : Sheet} → Reached s → takenOff (standing s) ≤ sumOf Hull (standing s)
 taken-off-at-most-whole (reached begun calls) = after-any-run begun calls .taken-off-at-most-whole
 
--- "and when a report is given, net is neither below zero": "net = gross − D" with nothing cut off
+-- "and when a report is given, net is neither below zero": "Net is gross less D less this deduction" with nothing cut off, and "demand 3's floor
+-- of zero now rests on a refusal", 21
 pub net-not-below-zero : {s : Sheet} → Reached s → (justified : ℕ) → reported s justified .number ≡ 0
-    → reported s justified .net + sumOf Deducted (standing s) ≡ reported s justified .gross
-net-not-below-zero (reached begun calls) justified given = after-any-run begun calls .report-within justified given .net-and-deducted
+    → reported s justified .net + deductions (standing s) ≡ reported s justified .gross
+net-not-below-zero (reached begun calls) justified given = after-any-run begun calls .report-within justified given .net-and-deductions
 
 -- "nor above gross."
 pub net-not-above-gross : {s : Sheet} → Reached s → (justified : ℕ) → reported s justified .number ≡ 0
     → reported s justified .net ≤ reported s justified .gross
 net-not-above-gross (reached begun calls) justified given = after-any-run begun calls .report-within justified given .net-at-most-gross
+
+-- without machinery rooms a report is what it was before T-06, its number too
+pub as-before-machinery : {s : Sheet} → Reached s → WithoutMachinery (standing s) → (justified : ℕ) → ReportAsBefore s justified
+as-before-machinery {s} r without = report-as-before s (reached-resumable r .resumable .valid) without

@@ -66,6 +66,10 @@ pub measure-length-fits :
     One measure.ranges.length_fits.ended measure.ranges.length_fits.Reads.Asked measure.ranges.length_fits.Reads.Learnt
 measure-length-fits _ = record { nothing-asked = tt; one-answer = agree; one-left = λ p q. refl }
 
+pub measure-nearest :
+    One measure.rounding.nearest.ended measure.rounding.nearest.Reads.Asked measure.rounding.nearest.Reads.Learnt
+measure-nearest _ = record { nothing-asked = tt; one-answer = agree; one-left = λ p q. refl }
+
 pub measure-none :
     One measure.roundings.none.ended measure.roundings.none.Reads.Asked measure.roundings.none.Reads.Learnt
 measure-none _ = record { nothing-asked = tt; one-answer = agree; one-left = λ p q. refl }

@@ -12,7 +12,8 @@ use Rattle.measure.specs.Ends.{sectionAreas, endsOf, FirstAndLast}
 use Rattle.spaces.specs.Row.{sumOf}
 use Rattle.standard.specs.Gross.{allExempt}
 use Rattle.spaces.specs.declared.space.Space.{Space}
-use Rattle.spaces.specs.declared.sums.Amount.the-variants.{Deducted}
+use Rattle.spaces.specs.declared.sums.Amount.the-variants.{Deducted, Machinery}
+use Rattle.spaces_laws.specs.Machinery.{Deduction}
 use Rattle.spaces_laws.specs.Gross.{GrossLess}
 use Rattle.spaces_laws.specs.Tanks.{AcceptedTank}
 use Rattle.sheet.specs.Sheet.{standing}
@@ -64,5 +65,8 @@ pub record TankEnteredLast (s : Sheet) (k : Tank) (depths breadths : List ℕ) :
 pub record GrossAndNet (xs : List Space) (gross net : ℕ) : Type 0 where
   -- "Let G = T − E. .. Gross = G + excess", part by part
   pub gross-is : GrossLess (allExempt xs) xs gross
-  -- "net = gross − D"
-  pub net-is : net + sumOf Deducted xs ≡ gross
+  -- the deduction that 69.121(e)(2) gives for M (T-06 of document 02)
+  pub deduction : ℕ
+  pub deduction-is : Deduction (sumOf Machinery xs) gross deduction
+  -- "net = gross − D"; "Net is gross less D less this deduction"
+  pub net-is : net + (sumOf Deducted xs + deduction) ≡ gross

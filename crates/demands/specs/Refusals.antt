@@ -1,7 +1,7 @@
 -- When each call is to be refused, and what a refused read and a refused move give.
 use Prim.Native.Nat.{ℕ}
 use mathlib.Core.Path.{_≡_}
-use mathlib.Core.Bool.{Bool, false, not, _&&_, _||_}
+use mathlib.Core.Bool.{Bool, false, not, _||_}
 use mathlib.Core.List.{List, [], _∷_, _++_}
 use mathlib.Core.Logic.{_↔_}
 use lib.Dec.{eqb, ltb}
@@ -12,18 +12,17 @@ use Rattle.measure.specs.Ranges.{includes, tonnageLengths}
 use Rattle.measure.specs.Offsets.{inRange, counted as rightlyCounted}
 use Rattle.measure.specs.Ends.{endsOf}
 use Rattle.measure.specs.Tanks.{tankInRange, passesEnd, lengthsFit}
-use Rattle.spaces.specs.Row.{sumOf}
+use Rattle.standard.specs.Standings.{greatestStanding}
 use Rattle.standard.specs.Rules.{entryTests, withdrawTests, markTests}
 use Rattle.standard.specs.Tanks.{tankTests}
-use Rattle.standard.specs.Gross.{gross, net, needsMark}
+use Rattle.standard.specs.Gross.{gross, net, deductionsPass}
 use Rattle.standard.specs.Records.{misrecorded}
 use Rattle.spaces.specs.declared.space.Space.{Space}
-use Rattle.spaces.specs.declared.sums.Amount.the-variants.{Lengths}
 use Rattle.sheet.specs.Sheet.{standing, usable}
 use Rattle.sheet.specs.declared.sheet.Sheet.{Sheet}
 use Rattle.sheet.specs.declared.calls.Entry.{Entry}
 use Rattle.sheet.specs.Ends.{pointedWithArea}
-use Rattle.sheet.specs.Calls.{spaceOf, outOfRange, misstated}
+use Rattle.sheet.specs.Calls.{spaceOf, outOfRange, misstated, lengthsShort, ballastUnjustified}
 use Rattle.sheet.specs.Tanks.{tankIn, sectionsWrong}
 use Rattle.sheet.specs.declared.tanks.Tank.{Tank}
 use Rattle.dayfile.specs.Forms.{isForm}
@@ -32,10 +31,10 @@ use Rattle.dayfile.specs.Reading.{lastTrailer, lastForm, lastRecords, noSheet, 
 use Rattle.dayfile.specs.Moving.{moved, movedInto}
 use Rattle.dayfile_laws.specs.Faults.{FirstFault, NoFault}
 
--- ---- the rows of "Numbers of refusal" that each call can be refused with, and 19, 20 and 29 of document 02. The conditions of entryTests
+-- ---- the rows of "Numbers of refusal" that each call can be refused with, and 19, 20, 21 and 29 of document 02. The conditions of entryTests
 -- (4 to 10), withdrawTests (5, 11) and markTests (5, 6, 8) are defined in standard/specs/Rules, those of tankTests (4 to 10 and 29) in
--- standard/specs/Tanks, those of a U's ends (2, 19) in sheet/specs/Ends, those of 16 and 17 in dayfile/specs/Reading, those of 20 and 15
--- in dayfile/specs/Writing.
+-- standard/specs/Tanks, those of a U's ends (2, 19) in sheet/specs/Ends, those of 13 and 14 in sheet/specs/Calls, that of 21 in
+-- standard/specs/Gross, those of 16 and 17 in dayfile/specs/Reading, those of 20 and 15 in dayfile/specs/Writing.
 
 -- 2: the tonnage length is outside its range
 abbrev pub openTests : Hundredths → List (Bool × ℕ)
@@ -75,7 +74,7 @@ withdrawalTests s id = (not (usable s), 1) ∷ withdrawTests (standing s) id
 
 -- 1; 2: the standing is outside its range; 5, 6, 8
 abbrev pub markingTests : Sheet → ℕ → ℕ → List (Bool × ℕ)
-markingTests s id standing' = (not (usable s), 1) ∷ (ltb 3 standing', 2) ∷ markTests (standing s) id standing'
+markingTests s id standing' = (not (usable s), 1) ∷ (ltb greatestStanding standing', 2) ∷ markTests (standing s) id standing'
 
 -- 1; 12: nothing undoable, or nothing redoable
 abbrev pub undoTests : Sheet → List (Bool × ℕ)
@@ -84,19 +83,17 @@ undoTests s = (not (usable s), 1) ∷ (eqb (s .undoable) 0, 12) ∷ []
 abbrev pub redoTests : Sheet → List (Bool × ℕ)
 redoTests s = (not (usable s), 1) ∷ (eqb (s .redoable) 0, 12) ∷ []
 
--- 13: "U lengths don't add up to the tonnage length"; 14: "ballast over 30%, not justified"
-abbrev pub lengthsShort : Sheet → Bool
-lengthsShort s = not (eqb (sumOf Lengths (standing s)) (s .length .0))
-
-abbrev pub ballastUnjustified : Sheet → ℕ → Bool
-ballastUnjustified s justified = needsMark (standing s) && eqb justified 0
-
--- 1; 2: the justified mark is outside its range; 13, 14
+-- 1; 2: the justified mark is outside its range; 13, 14; 21 "when deductions pass gross"
 abbrev pub reportTests : Sheet → ℕ → List (Bool × ℕ)
 reportTests s justified =
-    (not (usable s), 1) ∷ (ltb 1 justified, 2) ∷ (lengthsShort s, 13) ∷ (ballastUnjustified s justified, 14) ∷ []
+    (not (usable s), 1)
+    ∷ (ltb 1 justified, 2)
+    ∷ (lengthsShort s, 13)
+    ∷ (ballastUnjustified s justified, 14)
+    ∷ (deductionsPass (standing s), 21)
+    ∷ []
 
--- 1; 2: the justified mark is outside its range, or "a form that is neither"; 13, 14; 20 "in a write just before 15"
+-- 1; 2: the justified mark is outside its range, or "a form that is neither"; 13, 14; 20 "in a write just before 15"; 21 "after 15"
 abbrev pub writeTests : Sheet → ℕ → ℕ → ℕ → ℕ → List (Bool × ℕ)
 writeTests s justified form size at =
     (not (usable s), 1)
@@ -104,6 +101,7 @@ writeTests s justified form size at =
     ∷ (lengthsShort s, 13)
     ∷ (ballastUnjustified s justified, 14)
     ∷ lostOrNoRoom form s size at
+    ++ ((deductionsPass (standing s), 21) ∷ [])
 
 -- 18: "gross or net isn't what the records give"
 abbrev pub figuresWrong : List ℕ → Bool
@@ -111,7 +109,7 @@ figuresWrong file =
     let xs = standing (sheetIn file) in
     not (eqb (gross xs) (lastTrailer file .gross)) || not (eqb (net xs) (lastTrailer file .net))
 
--- "except in reading: there 16, 17, 13, 14, 18 in that order"
+-- "except in reading: there 16, 17, 13, 14, 18 in that order"; 21 "in reading .. stands after 14"
 abbrev pub readTests : List ℕ → List (Bool × ℕ)
 readTests file =
     let s = sheetIn file in
@@ -120,6 +118,7 @@ readTests file =
     ∷ (not (eqb (faultIn file) 0), 17)
     ∷ (lengthsShort s, 13)
     ∷ (ballastUnjustified s (t .justified), 14)
+    ∷ (deductionsPass (standing s), 21)
     ∷ (figuresWrong file, 18)
     ∷ []
 

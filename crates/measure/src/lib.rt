@@ -11,7 +11,7 @@ pub mod offsets;
 mod parts;
 pub mod ranges;
 pub mod refusals;
-mod rounding;
+pub mod rounding;
 pub mod roundings;
 pub mod sections;
 pub mod tanks;

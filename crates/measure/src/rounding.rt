@@ -4,11 +4,13 @@ ghost use Prim.Native.Nat.{_+_, _*_, _^_, _≤_, _<_};
 ghost use lib.IntN.{pos, _-ℤ_};
 ghost use Rattle.measure.specs.Rounding.{nearest as nearestOf};
 
-// a / b to the nearest whole number. The remainder decides, so that nothing is doubled and nothing can overflow.
-pub(crate) fn nearest(a: u64, b: u64) -> u64
-    requires { ⌜ 0 < b ⌝ }
+// a / b to the nearest whole number, and 0 where b is 0. The remainder decides, so that nothing is doubled and nothing can overflow.
+pub fn nearest(a: u64, b: u64) -> u64
     ensures { λ r. ⌜ r ≡ nearestOf a b ⌝ }
 {
+    if b == 0 {
+        return 0;
+    }
     let rest = a % b;
     if rest < b - rest {
         return a / b;

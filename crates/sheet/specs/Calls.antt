@@ -13,8 +13,9 @@ use Rattle.measure.specs.Ends.{endsOf}
 use Rattle.measure.specs.declared.units.Hundredths.{Hundredths}
 use Rattle.measure.specs.declared.offsets.Measured.{Measured}
 use Rattle.spaces.specs.Row.{find, placeOf, spaceWith, sumOf}
+use Rattle.standard.specs.Standings.{greatestStanding}
 use Rattle.standard.specs.Rules.{entryTests, withdrawTests, markTests}
-use Rattle.standard.specs.Gross.{gross, net, needsMark}
+use Rattle.standard.specs.Gross.{gross, net, needsMark, deductionsPass}
 use Rattle.spaces.specs.declared.space.Space.{Space}
 use Rattle.spaces.specs.declared.sums.Amount.the-variants.{Lengths}
 use Rattle.sheet.specs.Sheet.{standing, usable, changeOf, noChange, blank, notOpen}
@@ -70,9 +71,9 @@ spaceOf L e heights breadths =
 abbrev pub measuredFor : Sheet → Entry → List ℕ → List ℕ → Measured
 measuredFor s e heights breadths = measured (e .kind) (s .length) (e .length) heights breadths
 
--- 2 by a standing or a deck: "Standing 0 to 3"; "a deck above 99 on entry" (T-05)
+-- 2 by a standing over 4, or a deck: "a deck above 99 on entry" (T-05)
 abbrev pub outOfRange : (standing deck : ℕ) → Bool
-outOfRange standing deck = ltb 3 standing || ltb 99 deck
+outOfRange standing deck = ltb greatestStanding standing || ltb 99 deck
 
 -- 2 by what an entry says beside its measures: its standing, its deck, and of a U its ends
 abbrev pub misstated : Entry → Bool
@@ -123,7 +124,7 @@ marking s id standing' = Marked (placeOf id (standing s)) (spaceWith (find id (s
 unfoldable pub marked : Sheet → ℕ → ℕ → Changed
 marked s id standing' =
     answered
-    (firstOf ((not (usable s), 1) ∷ (ltb 3 standing', 2) ∷ markTests (standing s) id standing'))
+    (firstOf ((not (usable s), 1) ∷ (ltb greatestStanding standing', 2) ∷ markTests (standing s) id standing'))
     s
     (changed (marking s id standing') s)
 
@@ -159,16 +160,25 @@ counted s =
 
 -- ---- report
 
+-- 13: "U lengths don't add up to the tonnage length"
+abbrev pub lengthsShort : Sheet → Bool
+lengthsShort s = not (eqb (sumOf Lengths (standing s)) (s .length .0))
+
+-- 14: "ballast over 30%, not justified"
+abbrev pub ballastUnjustified : Sheet → ℕ → Bool
+ballastUnjustified s justified = needsMark (standing s) && eqb justified 0
+
+-- the tests that a report and a write begin with; 2 where what each is given is outside its range
+abbrev pub testsTo14 : Sheet → (justified : ℕ) → (outside : Bool) → List (Bool × ℕ)
+testsTo14 s justified outside =
+    (not (usable s), 1) ∷ (outside, 2) ∷ (lengthsShort s, 13) ∷ (ballastUnjustified s justified, 14) ∷ []
+
+-- "21 from report, write and read when deductions pass gross" (T-06 of document 02): after 14 in a report, after 15 in a write
+abbrev pub deductionsTest : Sheet → List (Bool × ℕ)
+deductionsTest s = (deductionsPass (standing s), 21) ∷ []
+
 abbrev pub reportNumber : Sheet → ℕ → ℕ
-reportNumber s justified =
-    firstOf
-    ((not (usable s), 1)
-    ∷ (ltb 1 justified, 2)
-    -- 13: U lengths don't add up to the tonnage length
-    ∷ (not (eqb (sumOf Lengths (standing s)) (s .length .0)), 13)
-    -- 14: ballast over 30%, not justified
-    ∷ (needsMark (standing s) && eqb justified 0, 14)
-    ∷ [])
+reportNumber s justified = firstOf (testsTo14 s justified (ltb 1 justified) ++ deductionsTest s)
 
 -- "A refused report gives 0 and 0", and no report changes the sheet
 abbrev pub reportedWith : ℕ → Sheet → Reported

@@ -1,6 +1,7 @@
 // The calls on a sheet. Each answers the paper's number, 0 where accepted, its values, and the sheet after it; a refused
 // change, undo or redo hands back the sheet as it came.
 use crate::changes::Change;
+use crate::refusals::DEDUCTIONS_PASS;
 use crate::refusals::LENGTHS_SHORT;
 use crate::refusals::NOT_JUSTIFIED;
 use crate::refusals::NOT_OPEN;
@@ -21,6 +22,7 @@ use standard::gross::reckon;
 use standard::rules::entry_number;
 use standard::rules::mark_ruling;
 use standard::rules::withdraw_ruling;
+use standard::standings::GREATEST_STANDING;
 ghost use mathlib.Core.Path.{_≡_};
 ghost use mathlib.Core.Bool.{_&&_};
 ghost use lib.Dec.{eqb};
@@ -207,7 +209,7 @@ impl Sheet {
                 sheet: self,
             };
         }
-        if 3 < standing {
+        if GREATEST_STANDING < standing {
             return Changed {
                 number: OUTSIDE_ITS_RANGE,
                 sheet: self,
@@ -338,6 +340,9 @@ impl Sheet {
         if unjustified(r.needs_mark, justified) {
             return no_figures(NOT_JUSTIFIED);
         }
+        if r.deductions_pass {
+            return no_figures(DEDUCTIONS_PASS);
+        }
         Figures {
             number: 0,
             gross: r.gross,
@@ -361,7 +366,7 @@ fn no_figures(number: u8) -> Figures
 pub(crate) fn out_of_range(standing: u8, deck: u8) -> bool
     ensures { λ r. ⌜ r ≡ outOfRange standing deck ⌝ }
 {
-    if 3 < standing {
+    if GREATEST_STANDING < standing {
         return true;
     }
     GREATEST_DECK < deck

@@ -14,3 +14,6 @@ pub const NOT_JUSTIFIED: u8 = 14;
 
 // A pointed end has area (T-02).
 pub const POINTED_WITH_AREA: u8 = 19;
+
+// Deductions pass gross (T-06).
+pub const DEDUCTIONS_PASS: u8 = 21;

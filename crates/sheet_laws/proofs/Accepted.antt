@@ -13,6 +13,7 @@ use Rattle.measure.specs.Ends.{endsOf}
 use Rattle.measure.proofs.laws.Refusals.{spliced}
 use Rattle.spaces.specs.Space.{isRoom}
 use Rattle.spaces.specs.declared.space.Space.{Space}
+use Rattle.standard.specs.Standings.{greatestStanding}
 use Rattle.standard.specs.Rules.{entryTests, entryNumber, withdrawTests, withdrawNumber, markTests, markNumber}
 use Rattle.standard.specs.Tanks.{tankTests, tankNumber}
 use Rattle.measure.specs.Tanks.{tankInRange}
@@ -93,8 +94,8 @@ withdraw-accepted s id z = passed (not (usable s)) 1 (withdrawTests (standing s)
 mark-accepted : (s : Sheet) (id standing' : ℕ) → marked s id standing' .number ≡ 0 → markNumber (standing s) id standing' ≡ 0
 unfolding marked markNumber
 mark-accepted s id standing' z =
-    let one = passed (not (usable s)) 1 ((ltb 3 standing', 2) ∷ markTests (standing s) id standing') z (λ w. omega arith) in
-    passed (ltb 3 standing') 2 (markTests (standing s) id standing') (one .1) (λ w. omega arith) .1
+    let one = passed (not (usable s)) 1 ((ltb greatestStanding standing', 2) ∷ markTests (standing s) id standing') z (λ w. omega arith) in
+    passed (ltb greatestStanding standing') 2 (markTests (standing s) id standing') (one .1) (λ w. omega arith) .1
 
 -- the rules allow what `resume` accepts: each accepted change leaves such spaces
 pub paper-rules : Rules Resumable

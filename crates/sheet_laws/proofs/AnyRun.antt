@@ -1,18 +1,15 @@
 -- After any run of calls from a sheet just opened or just read: the spaces standing are those that the accepted changes not undone
 -- leave if made in order, the counts are the paper's, each space is accepted in order as a record, and no volume is taken off twice.
 -- Stands on Accepted.
-use Prim.Native.Nat.{ℕ, _+_}
-use mathlib.Core.Path.{_≡_, refl, sym, ap, _∙_}
+use Prim.Native.Nat.{ℕ}
+use mathlib.Core.Path.{_≡_, refl}
 use mathlib.Core.Bool.{true}
 use mathlib.Core.List.{List}
 use native.Mathlib.Omega.{arith}
 use Rattle.measure.specs.declared.units.Hundredths.{Hundredths}
 use Rattle.spaces.specs.declared.space.Space.{Space}
-use Rattle.spaces.specs.declared.sums.Amount.the-variants.{Deducted}
-use Rattle.spaces.specs.Row.{sumOf}
-use Rattle.standard.specs.Valid.{Valid}
 use Rattle.spaces_laws.proofs.Twice.{neither-above-the-other, taken-off-at-most-whole}
-use Rattle.spaces_laws.proofs.Report.{report-exact, net-at-most-gross}
+use Rattle.spaces_laws.proofs.Report.{net-and-deductions, net-at-most-gross}
 use Rattle.sheet.specs.Sheet.{standing, blank}
 use Rattle.sheet.specs.Changes.{withStanding}
 use Rattle.sheet.specs.Calls.{reported}
@@ -25,14 +22,13 @@ use Rattle.sheet_laws.proofs.Resumable.{resumable-exactly}
 use Rattle.sheet_laws.proofs.Runs.{history-after-any-run}
 use Rattle.sheet_laws.proofs.Accepted.{paper-rules}
 
--- a given report is gross and net of the spaces standing, and these are exact on a valid sheet
-given-within : {L : Hundredths} (s : Sheet) → Valid L (standing s) → (justified : ℕ) → reported s justified .number ≡ 0
-    → Within (standing s) (reported s justified)
-given-within s v justified z =
+-- a given report is gross and net of the spaces standing, and no deductions pass gross where it isn't refused with 21
+given-within : (s : Sheet) (justified : ℕ) → reported s justified .number ≡ 0 → Within (standing s) (reported s justified)
+given-within s justified z =
     let g = given s justified (reported s justified) refl z in
     record {
       gross-is = g .gross-is;
-      net-and-deducted = ap (λ (n : ℕ). n + sumOf Deducted (standing s)) (g .net-is) ∙ report-exact v .gross-less-deducted ∙ sym (g .gross-is);
+      net-and-deductions = omega (arith, g .net-is, g .gross-is, net-and-deductions (standing s) (g .none-pass));
       net-at-most-gross = omega (arith, g .net-is, g .gross-is, net-at-most-gross (standing s));
     }
 
@@ -48,5 +44,5 @@ after-any-run-from-records {L} {vessel} {records} o calls =
       none-refused = resumable-exactly L _ .1 now;
       neither-above = λ y z m n p q. neither-above-the-other v m n p q;
       taken-off-at-most-whole = taken-off-at-most-whole v;
-      report-within = given-within (after calls (withStanding records (blank true L vessel))) v;
+      report-within = given-within (after calls (withStanding records (blank true L vessel)));
     })

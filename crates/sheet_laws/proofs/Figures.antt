@@ -10,7 +10,8 @@ use Rattle.measure.specs.Volumes.{hundredths}
 use Rattle.measure.specs.Allowances.{hatchwayAllowance, hatchwayExcess, ballastOver}
 use Rattle.measure_laws.proofs.Figures as measured
 use Rattle.spaces.specs.Row.{sumOf}
-use Rattle.standard.specs.Gross.{grossOver, gross, net, needsMark}
+use Rattle.standard.specs.Machinery.{engineRoomDeduction}
+use Rattle.standard.specs.Gross.{grossOver, gross, deductions, deductionsPass, needsMark}
 use Rattle.spaces.specs.declared.space.Space.{Space}
 use Rattle.spaces.specs.declared.sums.Amount.the-variants.{Exempt}
 use Rattle.spaces_laws.specs.Gross.{GrossLess}
@@ -52,7 +53,7 @@ pub record Starred : Type 0 where
   pub justified-301 : reported (sheet (ballasted 301)) 1 .number ≡ 0
 
 pub starred : Starred
-unfolding nearest hatchwayAllowance hatchwayExcess ballastOver grossOver gross net needsMark usable blank reported
+unfolding nearest hatchwayAllowance hatchwayExcess ballastOver engineRoomDeduction grossOver gross deductions deductionsPass needsMark usable blank reported
 starred =
     record {
       of-one-space = measured.figures;

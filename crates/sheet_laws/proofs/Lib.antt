@@ -1,4 +1,4 @@
--- The starred figures, any run of calls, and the ends of a U. Read from top to bottom.
+-- The starred figures, any run of calls, reports without machinery rooms, and the ends of a U. Read from top to bottom.
 pub mod Figures
 pub mod Undoable
 pub mod History
@@ -7,5 +7,6 @@ pub mod Changes
 pub mod Resumable
 pub mod Accepted
 pub mod AnyRun
+pub mod AsBefore
 pub mod Ends
 pub mod EndFigures

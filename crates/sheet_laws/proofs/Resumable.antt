@@ -19,6 +19,7 @@ use Rattle.measure_laws.proofs.Offsets.{measured-exactly, measured-at-most}
 use Rattle.measure_laws.proofs.Tanks.{measured-tank-at-most}
 use Rattle.spaces.specs.Space.{allRecorded}
 use Rattle.spaces.specs.declared.space.Space.{Space}
+use Rattle.standard.specs.Standings.{greatestStanding}
 use Rattle.standard.specs.Rules.{entryTests, entryNumber, withdrawNumber, markNumber}
 use Rattle.standard.specs.Tanks.{underDeckWith}
 use Rattle.standard.specs.Valid.{ValidFrom, done, next}
@@ -148,7 +149,7 @@ resumable-marked {L} {xs} id standing r e =
 
 -- "a deck above 99" is refused on entry
 deck-fits : (standing deck : ℕ) → outOfRange standing deck ≡ false → ltb 99 deck ≡ false
-deck-fits standing deck stated = or-fails (ltb 3 standing) (ltb 99 deck) stated .1
+deck-fits standing deck stated = or-fails (ltb greatestStanding standing) (ltb 99 deck) stated .1
 
 -- an entry that is well stated and whose offsets are accepted is well recorded: its length and its deck were in range, its tonnage is at most
 -- 100,000,000, and an enclosing id is recorded only of a room

@@ -7,10 +7,11 @@ use lib.ListN.{length}
 use Rattle.measure.specs.declared.units.Hundredths.{Hundredths}
 use Rattle.spaces.specs.Space.{isPlain}
 use Rattle.spaces.specs.Row.{sumOf}
-use Rattle.standard.specs.Gross.{allExempt, gross}
+use Rattle.standard.specs.Gross.{gross, deductions}
 use Rattle.spaces.specs.declared.space.Space.{Space}
-use Rattle.spaces.specs.declared.sums.Amount.the-variants.{Hull, Deducted}
+use Rattle.spaces.specs.declared.sums.Amount.the-variants.{Hull}
 use Rattle.spaces_laws.specs.Above.{_∈_, Above}
+use Rattle.spaces_laws.specs.Gross.{takenOff}
 use Rattle.sheet.specs.Sheet.{standing, usable}
 use Rattle.sheet.specs.Calls.{undone, redone, counted, reported}
 use Rattle.standard.specs.Records.{firstRefused}
@@ -41,10 +42,10 @@ pub record HistoryHolds (L : Hundredths) (start : List Space) (s : Sheet) (log :
   pub places : length (s .spaces) ≡ 200
   pub open-places : length (s .changes) ≡ 64
 
--- "net = gross − D" with nothing cut off: gross − D isn't below 0
+-- "Net is gross less D less this deduction" (T-06 of document 02) with nothing cut off: gross less these isn't below 0
 pub record Within (xs : List Space) (r : Reported) : Type 0 where
   pub gross-is : r .gross ≡ gross xs
-  pub net-and-deducted : r .net + sumOf Deducted xs ≡ r .gross
+  pub net-and-deductions : r .net + deductions xs ≡ r .gross
   pub net-at-most-gross : r .net ≤ r .gross
 
 -- and all that holds under the paper's rules
@@ -52,12 +53,12 @@ pub record Holds (L : Hundredths) (start : List Space) (s : Sheet) (log : Log) (
   pub history : HistoryHolds L start s log k
   -- each space standing, in order, is accepted as a record after those before it
   pub none-refused : firstRefused L [] (standing s) .number ≡ 0
-  -- "no volume is taken off twice": "of two standing spaces that aren't plain neither is anywhere above the other, and E + D is not
-  -- more than T"
+  -- "no volume is taken off twice": "of two standing spaces that aren't plain neither is anywhere above the other", and it "now asks that
+  -- E + D + M is not more than T" (T-06)
   pub neither-above : (y z : Space) → y ∈ standing s → z ∈ standing s → isPlain y ≡ false → isPlain z ≡ false
       → (Above (standing s) y z → ⊥) × (Above (standing s) z y → ⊥)
-  pub taken-off-at-most-whole : allExempt (standing s) + sumOf Deducted (standing s) ≤ sumOf Hull (standing s)
-  -- "when a report is given, net is neither below zero nor above gross"
+  pub taken-off-at-most-whole : takenOff (standing s) ≤ sumOf Hull (standing s)
+  -- "when a report is given, net is neither below zero nor above gross"; "demand 3's floor of zero now rests on a refusal" (T-06), 21
   pub report-within : (justified : ℕ) → reported s justified .number ≡ 0 → Within (standing s) (reported s justified)
 
 -- all of that after any calls on the sheet `first`

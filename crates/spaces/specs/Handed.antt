@@ -11,7 +11,7 @@ use Rattle.spaces.specs.Enclosure.{walked}
 use Rattle.spaces.specs.Around.{enclosingPlace}
 use Rattle.spaces.specs.declared.space.Space.{Space}
 use Rattle.spaces.specs.declared.sums.Amount.{Amount}
-use Rattle.spaces.specs.declared.sums.Amount.the-variants.{Lengths, Hull, Hatchways, Exempt, Ballast, Deducted}
+use Rattle.spaces.specs.declared.sums.Amount.the-variants.{Lengths, Hull, Hatchways, Exempt, Ballast, Deducted, Machinery}
 use Rattle.spaces.specs.declared.sums.Totals.{Totals}
 use Rattle.spaces.specs.declared.enclosure.Above.{Above}
 use Rattle.spaces.specs.declared.index.Rows.{Rows}
@@ -29,6 +29,7 @@ pub record AddedTo (sums : Totals) (x : Space) (after : Totals) : Type 0 where
   pub exempt : Adds Exempt x (sums .exempt) (after .exempt)
   pub ballast : Adds Ballast x (sums .ballast) (after .ballast)
   pub deducted : Adds Deducted x (sums .deducted) (after .deducted)
+  pub machinery : Adds Machinery x (sums .machinery) (after .machinery)
 
 -- ---- walks and places
 

@@ -9,7 +9,7 @@ use Rattle.spaces.specs.declared.space.Space.{Space}
 use Rattle.spaces.specs.declared.row.Found.{Found}
 use Rattle.spaces.specs.declared.row.Found.the-variants.{At, Nothing}
 use Rattle.spaces.specs.declared.sums.Amount.{Amount}
-use Rattle.spaces.specs.declared.sums.Amount.the-variants.{Inside, Rooms, Lengths, Hull, Hatchways, Exempt, Ballast, Deducted}
+use Rattle.spaces.specs.declared.sums.Amount.the-variants.{Inside, Rooms, Lengths, Hull, Hatchways, Exempt, Ballast, Deducted, Machinery}
 use Rattle.spaces.specs.declared.sums.Totals.{Totals}
 
 -- how many of the 200 places are used, where a sheet says `count`
@@ -57,10 +57,11 @@ amountOf Lengths x = only (isUnderDeck x) (x .length .0)
 -- "T: all U, B and S"; "the sum of all H"
 amountOf Hull x = only (isHull x) (x .tonnage)
 amountOf Hatchways x = only (isHatchway x) (x .tonnage)
--- standing 1; standing 2; "D: all with standing 3"
+-- standing 1; standing 2; "D: all with standing 3"; "standing 4, machinery .. Let M be the sum of all such rooms" (T-06 of document 02)
 amountOf Exempt x = only (eqb (x .standing) 1) (x .tonnage)
 amountOf Ballast x = only (eqb (x .standing) 2) (x .tonnage)
 amountOf Deducted x = only (eqb (x .standing) 3) (x .tonnage)
+amountOf Machinery x = only (eqb (x .standing) 4) (x .tonnage)
 
 abbrev pub sumBy : (Space → ℕ) → List Space → ℕ
 sumBy f [] = 0
@@ -79,6 +80,7 @@ totalsOf xs =
       exempt = sumOf Exempt xs;
       ballast = sumOf Ballast xs;
       deducted = sumOf Deducted xs;
+      machinery = sumOf Machinery xs;
     }
 
 -- no sum over 200 places passes this: no tonnage or length has more than 32 bits
@@ -92,3 +94,4 @@ pub record EachAtMost (most : ℕ) (sums : Totals) : Type 0 where
   pub exempt : sums .exempt ≤ most
   pub ballast : sums .ballast ≤ most
   pub deducted : sums .deducted ≤ most
+  pub machinery : sums .machinery ≤ most

@@ -24,7 +24,7 @@ isRoom x = eqb (x .kind) 5
 abbrev pub isHull : Space → Bool
 isHull x = eqb (x .kind) 1 || eqb (x .kind) 2 || eqb (x .kind) 3
 
--- "0 plain, 1 exempt, 2 exempt as water ballast, 3 deducted"
+-- "0 plain, 1 exempt, 2 exempt as water ballast, 3 deducted"; 4 is machinery, and "Machinery rooms count as not plain" (T-06)
 abbrev pub isPlain : Space → Bool
 isPlain x = eqb (x .standing) 0
 

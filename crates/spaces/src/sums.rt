@@ -21,12 +21,13 @@ pub enum Amount {
     Rooms(u16),
     // The lengths of all U.
     Lengths,
-    // T: the tonnages of all U, B and S. All H. Standing 1, 2 and 3.
+    // T: the tonnages of all U, B and S. All H. Standing 1, 2, 3 and 4.
     Hull,
     Hatchways,
     Exempt,
     Ballast,
     Deducted,
+    Machinery,
 }
 
 // The sums that a report works with.
@@ -37,6 +38,7 @@ pub struct Totals {
     pub exempt: u64,
     pub ballast: u64,
     pub deducted: u64,
+    pub machinery: u64,
 }
 
 fn only(test: bool, n: u32) -> u64
@@ -79,6 +81,7 @@ pub(crate) fn share(which: Amount, x: Space) -> u64
         Amount::Exempt => only(x.standing == 1, x.tonnage),
         Amount::Ballast => only(x.standing == 2, x.tonnage),
         Amount::Deducted => only(x.standing == 3, x.tonnage),
+        Amount::Machinery => only(x.standing == 4, x.tonnage),
     }
 }
 
@@ -108,6 +111,7 @@ pub fn total_up(spaces: [Space; 200], count: usize) -> Totals
         exempt: 0,
         ballast: 0,
         deducted: 0,
+        machinery: 0,
     };
     let mut i = 0;
     while i < n {
@@ -130,5 +134,6 @@ fn with_space(sums: Totals, x: Space) -> Totals
         exempt: sums.exempt + share(Amount::Exempt, x),
         ballast: sums.ballast + share(Amount::Ballast, x),
         deducted: sums.deducted + share(Amount::Deducted, x),
+        machinery: sums.machinery + share(Amount::Machinery, x),
     }
 }

@@ -1,5 +1,5 @@
--- Whole sheets: what a valid sheet is like, what keeps it valid, and that no volume is taken off twice; spaces as their records give them
--- back, and tanks. Read from top to bottom.
+-- Whole sheets: what a valid sheet is like, what keeps it valid, and that no volume is taken off twice; the deduction for machinery and the
+-- report; spaces as their records give them back, and tanks. Read from top to bottom.
 pub mod Tests
 pub mod Refusals
 pub mod Lists
@@ -14,6 +14,8 @@ pub mod Places
 pub mod Order
 pub mod Standings
 pub mod Twice
+pub mod Machinery
+pub mod MachineryFigures
 pub mod Report
 pub mod Recorded
 pub mod Tanks

@@ -80,6 +80,10 @@ sum-at-most f g [] h = omega arith
 sum-at-most f g (x ∷ xs) h =
     omega (arith, h x (List·Memᴰ·head refl), sum-at-most f g xs (λ y m. h y (List·Memᴰ·tail m)))
 
+pub sum-same : (f g : Space → ℕ) (xs : List Space) → ((y : Space) → y ∈ xs → f y ≡ g y) → sumBy f xs ≡ sumBy g xs
+sum-same f g [] h = refl
+sum-same f g (x ∷ xs) h = omega (arith, h x (List·Memᴰ·head refl), sum-same f g xs (λ y m. h y (List·Memᴰ·tail m)))
+
 pub sum-of-each-at-most : (f : Space → ℕ) (most : ℕ) (xs : List Space) → ((y : Space) → y ∈ xs → f y ≤ most) → sumBy f xs ≤ length xs * most
 sum-of-each-at-most f most [] h = omega arith
 sum-of-each-at-most f most (x ∷ xs) h =

@@ -11,13 +11,13 @@ use Rattle.measure.specs.Refusals.{firstOf}
 use Rattle.measure.specs.declared.units.Hundredths.{Hundredths}
 use Rattle.spaces.specs.declared.space.Space.{Space}
 use Rattle.spaces.specs.declared.sums.Amount.{Amount}
-use Rattle.spaces.specs.declared.sums.Amount.the-variants.{Inside, Rooms, Lengths, Hull, Hatchways, Exempt, Ballast, Deducted}
+use Rattle.spaces.specs.declared.sums.Amount.the-variants.{Inside, Rooms, Lengths, Hull, Hatchways, Exempt, Ballast, Deducted, Machinery}
 use Rattle.spaces.specs.Space.{isPlain, recorded, allRecorded}
 use Rattle.spaces.specs.Row.{find, isSome, stands, amountOf, sumOf}
 use Rattle.spaces.specs.Enclosure.{enclosing, above, allPlain, among, belowOf, below}
 use Rattle.standard.specs.Rules.{inHatchway, passesEnclosing, entryTests, entryNumber, withdrawNumber, cannotTake, plainAbove, markNumber}
 use Rattle.standard.specs.Records.{misrecorded, recordNumber, firstRefused}
-use Rattle.standard.specs.Gross.{gross, net, needsMark, reckoned}
+use Rattle.standard.specs.Gross.{gross, deductions, net, deductionsPass, needsMark, reckoned}
 use Rattle.standard.specs.Valid.{ValidFrom, done, next, Valid}
 use Rattle.spaces.proofs.laws.Cases.{by-test}
 use Rattle.spaces_laws.proofs.Each.{sum-each, Keeps, find-each, enclosing-each, upward-each}
@@ -72,6 +72,7 @@ blind Hatchways y = refl
 blind Exempt y = refl
 blind Ballast y = refl
 blind Deducted y = refl
+blind Machinery y = refl
 
 pub sum-recorded : (a : Amount) (xs : List Space) → sumOf a (allRecorded xs) ≡ sumOf a xs
 sum-recorded a xs = sum-each (amountOf a) recorded (blind a) xs
@@ -164,9 +165,9 @@ valid-from-recorded {L} {pre} (next {x = x} {xs = xs} e v) =
 pub valid-recorded : {L : Hundredths} {xs : List Space} → Valid L xs → Valid L (allRecorded xs)
 valid-recorded v = valid-from-recorded v
 
--- ---- reported: the lengths, gross, net and the mark that the water ballast needs
+-- ---- reported: the lengths, gross, net, the mark that the water ballast needs, and whether deductions pass gross
 pub reckoned-recorded : (xs : List Space) → reckoned (allRecorded xs) ≡ reckoned xs
-unfolding net gross needsMark
+unfolding gross deductions net deductionsPass needsMark
 reckoned-recorded xs =
     rw (
       sum-recorded Lengths xs,
@@ -175,4 +176,5 @@ reckoned-recorded xs =
       sum-recorded Exempt xs,
       sum-recorded Ballast xs,
       sum-recorded Deducted xs,
+      sum-recorded Machinery xs,
     )

@@ -1,29 +1,29 @@
--- "No volume is taken off twice": of two spaces that aren't plain neither is anywhere above the other, and E + D is not more than T.
+-- "No volume is taken off twice": of two spaces that aren't plain neither is anywhere above the other, and E + D + M is not more than T.
 -- Stands on Valid, Standings.
-use Prim.Native.Nat.{ℕ, _+_, _≤_}
+use Prim.Native.Nat.{ℕ, zero, suc, _+_, _≤_}
 use mathlib.Core.Path.{_≡_, refl, sym, ap, _∙_}
 use mathlib.Core.Bool.{Bool, true, false, not, _&&_}
 use mathlib.Core.List.{List, _∷_}
 use mathlib.Core.Option.{some}
 use native.Mathlib.Omega.{arith}
-use borrow.Author.Tests.{eqb-true}
 use lib.Dec.{eqb}
 use Rattle.measure.specs.declared.units.Hundredths.{Hundredths}
 use Rattle.spaces.specs.declared.space.Space.{Space}
-use Rattle.spaces.specs.declared.sums.Amount.the-variants.{Inside, Hull, Exempt, Ballast, Deducted}
+use Rattle.spaces.specs.declared.sums.Amount.the-variants.{Inside, Hull, Exempt, Ballast, Deducted, Machinery}
 use Rattle.spaces.specs.Space.{isHatchway, isRoom, isPlain}
 use Rattle.spaces.specs.Row.{only, amountOf, sumBy, sumOf}
 use Rattle.spaces.specs.Enclosure.{enclosing, above, allPlain, below}
-use Rattle.standard.specs.Gross.{allExempt}
+use Rattle.standard.specs.Standings.{greatestStanding}
 use Rattle.standard.specs.Valid.{Valid}
 use Rattle.spaces.proofs.laws.Cases.{by-test, not-both}
 use Rattle.spaces_laws.specs.Above.{_∈_, Above}
 use Rattle.spaces_laws.specs.Sound.{Sound}
+use Rattle.spaces_laws.specs.Gross.{takenOff, takenTons}
 use Rattle.spaces_laws.proofs.Tests.{and-holds, and-holds-of, and-fails-of}
-use Rattle.spaces_laws.proofs.Lists.{found-stands, only-at-most, sum-at-most, sum-of-sums, one-within-sum, sum-of-none, sums-exchange, inside-adds}
+use Rattle.spaces_laws.proofs.Lists.{found-stands, only-at-most, sum-at-most, sum-same, sum-of-sums, one-within-sum, sum-of-none, sums-exchange, inside-adds}
 use Rattle.spaces_laws.proofs.Walk.{enclosing-of-room, enclosing-stands, above-exactly, above-of-room, upward-stands, plain-of-all, all-plain-of, below-exactly}
 use Rattle.spaces_laws.proofs.Valid.{same-by-id, valid-is-sound}
-use Rattle.spaces_laws.proofs.Standings.{may-take-is, Kinded, hull, hatchway, room, kinded}
+use Rattle.spaces_laws.proofs.Standings.{may-take-is, standing-at-most, Kinded, hull, hatchway, room, kinded}
 
 -- what is anywhere above a space that isn't plain is plain
 pub plain-anywhere-above : {L : Hundredths} {xs : List Space} → Valid L xs → {y z : Space} → y ∈ xs → isPlain y ≡ false → Above xs y z → isPlain z ≡ true
@@ -51,7 +51,7 @@ all-plain-below {L} {xs} v {y} m p = all-plain-of (below (y .id) xs) plain
         let e : y ≡ z = same-by-id (y .id) (s .member z (upward-stands 8 xs t z over)) (s .member y m .found) same in
         by-test (isPlain t) (λ q. q) (λ q. not-both (ap isPlain e ∙ plain-of-all (s .member t t-stands .plain-above q) over) p)
 
--- ---- E + D ≤ T, by counting twice. At each space, what is taken off there and what it has clear are no more than its tonnage as hull or
+-- ---- E + D + M ≤ T, by counting twice. At each space, what is taken off there and what it has clear are no more than its tonnage as hull or
 -- as a room under clear spaces; and such rooms are shares of clear spaces, which hold no more than their own.
 
 -- a space that is plain with all above it, and no hatchway
@@ -64,9 +64,6 @@ clearTons xs z = only (clear xs z) (z .tonnage)
 -- a room that has only plain spaces above it
 abbrev underClear : List Space → Space → ℕ
 underClear xs y = only (isRoom y && allPlain (above xs y)) (y .tonnage)
-
-abbrev takenTons : Space → ℕ
-takenTons y = only (not (isPlain y)) (y .tonnage)
 
 -- what a room y is of z, its enclosing space, where that is clear
 abbrev share : List Space → Space → Space → ℕ
@@ -143,23 +140,33 @@ module _ (L : Hundredths) (xs : List Space) (s : Sound L xs) where
         sum-at-most (λ z. sumBy (λ y. share xs z y) xs) (clearTons xs) xs shares-fit,
       )
 
--- E and D count each space once, and only spaces that aren't plain
-taken-once : (standing n : ℕ) → only (eqb standing 1) n + only (eqb standing 2) n + only (eqb standing 3) n ≤ only (not (eqb standing 0)) n
-taken-once standing n =
-    by-test (eqb standing 1)
-    (λ e. rw (eqb-true standing 1 e) (omega arith))
-    (λ n1.
-    by-test (eqb standing 2)
-    (λ e. rw (eqb-true standing 2 e) (omega arith))
-    (λ n2. by-test (eqb standing 3) (λ e. rw (eqb-true standing 3 e) (omega arith)) (λ n3. rw (n1, n2, n3) (omega arith))))
+-- E, D and M count each space that isn't plain once, and no plain one: there is no standing over 4
+taken-once : (standing n : ℕ) → standing ≤ greatestStanding
+    → only (eqb standing 1) n + only (eqb standing 2) n + only (eqb standing 3) n + only (eqb standing 4) n ≡ only (not (eqb standing 0)) n
+taken-once zero n h = refl
+taken-once (suc zero) n h = omega arith
+taken-once (suc (suc zero)) n h = omega arith
+taken-once (suc (suc (suc zero))) n h = omega arith
+taken-once (suc (suc (suc (suc zero)))) n h = omega arith
+taken-once (suc (suc (suc (suc (suc s))))) n h = absurd (omega arith)
 
--- "E + D is not more than T"
-pub taken-off-at-most-whole : {L : Hundredths} {xs : List Space} → Valid L xs → allExempt xs + sumOf Deducted xs ≤ sumOf Hull xs
-taken-off-at-most-whole {L} {xs} v =
+-- so what is taken off is just what isn't plain
+pub taken-off-is : {L : Hundredths} {xs : List Space} → Valid L xs → takenOff xs ≡ sumBy takenTons xs
+taken-off-is {L} {xs} v =
     omega (
       arith,
-      taken-within-hull L xs (valid-is-sound v),
       sum-of-sums (amountOf Exempt) (amountOf Ballast) xs,
-      sum-of-sums (λ y. amountOf Exempt y + amountOf Ballast y) (amountOf Deducted) xs,
-      sum-at-most (λ y. amountOf Exempt y + amountOf Ballast y + amountOf Deducted y) takenTons xs (λ y m. taken-once (y .standing) (y .tonnage)),
+      sum-of-sums exempt (amountOf Deducted) xs,
+      sum-of-sums (λ y. exempt y + amountOf Deducted y) (amountOf Machinery) xs,
+      sum-same (λ y. exempt y + amountOf Deducted y + amountOf Machinery y) takenTons xs once,
     )
+  where
+    exempt : Space → ℕ
+    exempt y = amountOf Exempt y + amountOf Ballast y
+
+    once : (y : Space) → y ∈ xs → exempt y + amountOf Deducted y + amountOf Machinery y ≡ takenTons y
+    once y m = taken-once (y .standing) (y .tonnage) (standing-at-most (y .kind) (y .standing) (valid-is-sound v .member y m .may-take))
+
+-- "that no volume is taken off twice now asks that E + D + M is not more than T" (T-06 of document 02)
+pub taken-off-at-most-whole : {L : Hundredths} {xs : List Space} → Valid L xs → takenOff xs ≤ sumOf Hull xs
+taken-off-at-most-whole {L} {xs} v = omega (arith, taken-off-is v, taken-within-hull L xs (valid-is-sound v))

@@ -6,5 +6,6 @@ pub mod Levels
 pub mod Accepted
 pub mod Tanks
 pub mod Sound
+pub mod Machinery
 pub mod Gross
 pub mod Changes

@@ -3,3 +3,4 @@ pub mod Standings
 pub mod Judged
 pub mod Records
 pub mod Tanks
+pub mod Machinery

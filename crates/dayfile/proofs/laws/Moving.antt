@@ -6,7 +6,6 @@ use mathlib.Core.List.{List}
 use borrow.Author.Tests.{ne-eqb}
 use lib.Dec.{eqb}
 use lib.ListN.{length}
-use Rattle.sheet.proofs.laws.Report.{given}
 use Rattle.dayfile.specs.Forms.{isForm, formOf}
 use Rattle.dayfile.specs.Trailer.{sheetSize}
 use Rattle.dayfile.specs.Writing.{sheetBytes, writeNumber, written, placed, writtenInto}
@@ -15,15 +14,16 @@ use Rattle.dayfile.specs.Moving.{moveNumber, moved, movedInto}
 use Rattle.dayfile.specs.declared.reading.Reading.{Reading}
 use Rattle.dayfile.specs.declared.writing.Written.{Written}
 use Rattle.dayfile.specs.declared.moving.Moved.{Moved}
+use Rattle.dayfile.proofs.laws.Writing.{number-reported}
 use Rattle.dayfile.proofs.laws.Reading.{reading-accepted, read-reports, position-with-17}
 
 module _ (file : List ℕ) (form : ℕ) where
   pub as-written : (size at : ℕ) → readOf file .number ≡ 0 → isForm form ≡ true
       → writeNumber (readOf file .sheet) (readOf file .justified) form size at ≡ moveNumber file form size at
-  unfolding writeNumber moveNumber
+  unfolding moveNumber
   as-written size at read known =
       let reports = read-reports file (readOf file) refl read in
-      rw (given (readOf file .sheet) (readOf file .justified) _ refl reports .is-usable, reports, known, read)
+      number-reported (readOf file .sheet) (readOf file .justified) form size at reports known ∙ rw (known, read)
 
 module _ (file : List ℕ) (form at : ℕ) (buffer : List ℕ) where
   -- the answer and the other buffer after it

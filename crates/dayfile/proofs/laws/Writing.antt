@@ -2,22 +2,23 @@
 use Prim.Native.Nat.{ℕ, _+_, _*_, _-_, _<_, _≤_}
 use mathlib.Core.Path.{_≡_, refl, sym, ap, _∙_}
 use mathlib.Core.Bool.{Bool, true, false, cond, not, _||_}
-use mathlib.Core.List.{List, _∷_, _++_}
+use mathlib.Core.List.{List, [], _∷_, _++_}
 use native.Mathlib.Numerals.{add-one}
 use native.Mathlib.Omega.{arith}
-use borrow.Author.Tests.{ne-eqb}
-use lib.Dec.{eqb}
+use borrow.Author.Tests.{not-false, ne-eqb}
+use lib.Dec.{eqb, ltb}
 use lib.ListN.{length, take, drop, getD, length-append}
 use lib.Seq.{sets, sets-eq, drop-cons, length-take-le}
 use Rattle.measure.specs.declared.units.Hundredths.{Hundredths}
-use Rattle.standard.specs.Gross.{gross, net}
+use Rattle.standard.specs.Gross.{gross, net, deductionsPass}
 use Rattle.spaces.specs.Space.{emptySpace}
 use Rattle.spaces.specs.declared.space.Space.{Space}
-use Rattle.sheet.specs.Sheet.{standing}
-use Rattle.sheet.specs.Calls.{reported}
-use Rattle.sheet.proofs.laws.Report.{only-closed-with-1}
+use Rattle.sheet.specs.Sheet.{standing, usable}
+use Rattle.sheet.specs.Calls.{lengthsShort, ballastUnjustified, testsTo14, deductionsTest, reported}
+use Rattle.sheet.proofs.laws.Calls.{passed}
+use Rattle.sheet.proofs.laws.Report.{given, past-14, given-past-14}
 use Rattle.measure.specs.Refusals.{firstOf}
-use Rattle.spaces.proofs.laws.Cases.{by-test}
+use Rattle.spaces.proofs.laws.Cases.{by-test, or-fails}
 use Rattle.sheet.specs.declared.sheet.Sheet.{Sheet}
 use Rattle.dayfile.specs.Fields.{widths}
 use Rattle.dayfile.specs.Forms.{isForm, formOf, lost}
@@ -38,16 +39,6 @@ use Rattle.dayfile.proofs.laws.Record.{length-records}
 pub deck-looked-at : (f : Form) (xs : List Space) (i : ℕ) → i < length xs
     → losesDeck f (drop i xs) ≡ (lost (f .deck) (getD xs i emptySpace .deck) || losesDeck f (drop (i + 1) xs))
 deck-looked-at f xs i h = rw (add-one, drop-cons xs i emptySpace h)
-
--- what is refused neither by its report nor by its form
-pub none-refused : (report form : ℕ) → formRefusal report form ≡ 0 → (report ≡ 0) × (isForm form ≡ true)
-none-refused report form e =
-    by-test (eqb report 1)
-    (λ one. let never : _≡_ {A = ℕ} 1 0 = rw one at e in absurd (omega arith))
-    (λ other.
-    by-test (isForm form)
-    (λ t. (rw (other, t) at e, t))
-    (λ f. let never : _≡_ {A = ℕ} 2 0 = rw (other, f) at e in absurd (omega arith)))
 
 pub length-trailer : (t : Trailer) → length (trailerBytes t) ≡ trailerSize
 length-trailer t = length-encoded (widths trailerFields) (numbersOfTrailer t) refl
@@ -72,63 +63,115 @@ module _ (s : Sheet) (justified form : ℕ) where
       length-append (records f (standing s)) end
       ∙ omega (arith, length-records f (standing s), many, length-end (s .vessel) (trailerFor s justified form))
 
-  pub trailer-is : (n g m : ℕ) (l : Hundredths) → n ≡ s .count → l ≡ s .length → g ≡ gross (standing s) → m ≡ net (standing s)
-      → record { count = n; justified = justified; form = form; «tonnage_length» = l; gross = g; net = m } ≡ trailerFor s justified form
-  trailer-is n g m l e₁ e₂ e₃ e₄ = rw (e₁, e₂, e₃, e₄)
-
 -- ---- 1, 2, 13 and 14
+
+-- the tests that a report and a write begin with, by what they look at: whether the sheet is open, the mark outside its range, lengths
+-- short and ballast not justified
+module _ (on marked short unjustified : Bool) where
+  abbrev tests : List (Bool × ℕ)
+  tests = (not on, 1) ∷ (marked, 2) ∷ (short, 13) ∷ (unjustified, 14) ∷ []
+
+  -- and what is made of them where deductions pass gross, or don't, in a form that there is, or isn't
+  abbrev refusal : (pass known : Bool) → ℕ
+  refusal pass known = formRefusal (firstOf (tests ++ ((pass, 21) ∷ []))) known
+
+-- a write's number by that of its report and its form, whatever comes after 14
+by-report : (on marked short unjustified pass known : Bool) (last : List (Bool × ℕ))
+    → firstOf (tests on (marked || not known) short unjustified ++ last)
+    ≡ (let n = refusal on marked short unjustified pass known in cond (eqb n 0) (firstOf last) n)
+by-report false _ _ _ _ _ last = refl
+by-report true true _ _ _ false last = refl
+by-report true false true _ _ false last = refl
+by-report true false false true _ false last = refl
+by-report true false false false true false last = refl
+by-report true false false false false false last = refl
+by-report true true _ _ _ true last = refl
+by-report true false true _ _ true last = refl
+by-report true false false true _ true last = refl
+by-report true false false false true true last = refl
+by-report true false false false false true last = refl
+
+-- 21 is given at the latest
+given-at-last : (loses short : Bool) → eqb (firstOf ((loses, 20) ∷ (short, 15) ∷ (true, 21) ∷ [])) 0 ≡ false
+given-at-last true short = refl
+given-at-last false true = refl
+given-at-last false false = refl
+
+module _ (s : Sheet) (justified form : ℕ) where
+  -- where none of 1, 2, 13 and 14 of a write applies, none of its report does, and there is the form
+  pub within-form : firstOf (testsTo14 s justified (ltb 1 justified || not (isForm form))) ≡ 0
+      → (firstOf (testsTo14 s justified (ltb 1 justified)) ≡ 0) × (isForm form ≡ true)
+  within-form e =
+      let rest : List (Bool × ℕ) = (lengthsShort s, 13) ∷ (ballastUnjustified s justified, 14) ∷ [] in
+      let one = passed (not (usable s)) 1 ((ltb 1 justified || not (isForm form), 2) ∷ rest) e (λ z. omega arith) in
+      let two = passed (ltb 1 justified || not (isForm form)) 2 rest (one .1) (λ z. omega arith) in
+      let said = or-fails (ltb 1 justified) (not (isForm form)) (two .0) in
+      (rw (one .0, said .0) (two .1), not-false (isForm form) (said .1))
+
+  -- what is refused neither by 1, 2, 13 or 14 of its report nor by its form
+  pub none-refused : formRefusal (reported s justified .number) (isForm form) ≡ 0
+      → (firstOf (testsTo14 s justified (ltb 1 justified)) ≡ 0) × (isForm form ≡ true)
+  unfolding reported
+  none-refused e =
+      within-form (by-report (usable s) (ltb 1 justified) (lengthsShort s) (ballastUnjustified s justified) (deductionsPass (standing s)) (isForm form) [] ∙ rw e)
+
+module _ (s : Sheet) (justified form size at : ℕ) where
+  abbrev last-numbers : List (Bool × ℕ)
+  last-numbers = lostOrNoRoom form s size at ++ deductionsTest s
+
+  number-is : (let n = formRefusal (reported s justified .number) (isForm form) in writeNumber s justified form size at ≡ cond (eqb n 0) (firstOf last-numbers) n)
+  unfolding writeNumber reported
+  number-is = by-report (usable s) (ltb 1 justified) (lengthsShort s) (ballastUnjustified s justified) (deductionsPass (standing s)) (isForm form) last-numbers
+
+  -- 20, 15 and 21 are left where none of 1, 2, 13 and 14 applies
+  pub number-past-14 : firstOf (testsTo14 s justified (ltb 1 justified)) ≡ 0 → isForm form ≡ true → writeNumber s justified form size at ≡ firstOf last-numbers
+  number-past-14 z known =
+      number-is ∙ rw (past-14 s justified z, known) (by-test (deductionsPass (standing s)) (λ t. rw t) (λ f. rw f))
+
+  -- and 20 and 15 where the report is given
+  pub number-reported : reported s justified .number ≡ 0 → isForm form ≡ true → writeNumber s justified form size at ≡ firstOf (lostOrNoRoom form s size at)
+  number-reported z known =
+      number-past-14 (given-past-14 s justified z) known
+      ∙ ap (λ (pass : Bool). firstOf (lostOrNoRoom form s size at ++ ((pass, 21) ∷ []))) (given s justified _ refl z .none-pass)
 
 module _ (s : Sheet) (justified form at : ℕ) (buffer : List ℕ) where
   -- the answer and the buffer after it
   abbrev pub Answered : Written → List ℕ → Type 0
   Answered r after = (r ≡ written s justified form (length buffer) at) × (after ≡ writtenInto s justified form at buffer)
 
-  abbrev number : ℕ
-  number = writeNumber s justified form (length buffer) at
-
-  abbrev last-numbers : List (Bool × ℕ)
-  last-numbers = lostOrNoRoom form s (length buffer) at
-
-  by-form : (report : ℕ)
-      → firstOf ((eqb report 1, 1) ∷ (not (isForm form), 2) ∷ (not (eqb report 0), report) ∷ last-numbers)
-      ≡ cond (eqb (formRefusal report form) 0) (firstOf last-numbers) (formRefusal report form)
-  by-form report =
-      by-test (eqb report 1)
-      (λ one. rw one)
-      (λ other. by-test (isForm form) (λ t. rw (other, t) (by-test (eqb report 0) (λ z. rw z) (λ n. rw n))) (λ f. rw (other, f)))
-
-  number-is : number ≡ cond (eqb (formRefusal (reported s justified .number) form) 0) (firstOf last-numbers) (formRefusal (reported s justified .number) form)
-  unfolding writeNumber
-  number-is =
-      let report = reported s justified .number in
-      ap (λ (b : Bool). firstOf ((b, 1) ∷ (not (isForm form), 2) ∷ (not (eqb report 0), report) ∷ last-numbers)) (sym (only-closed-with-1 s justified))
-      ∙ by-form report
-
-  pub refused-with : (n : ℕ) → n ≡ formRefusal (reported s justified .number) form → (n ≡ 0 → ⊥) → Answered (record { number = n; bytes = 0; sheet = s }) buffer
+  pub refused-with : (n : ℕ) → n ≡ formRefusal (reported s justified .number) (isForm form) → (n ≡ 0 → ⊥) → Answered (record { number = n; bytes = 0; sheet = s }) buffer
   unfolding written writtenInto
   refused-with n e h =
-      let is : number ≡ n = number-is ∙ rw (← e, ne-eqb n 0 h) in
+      let is : writeNumber s justified form (length buffer) at ≡ n = number-is s justified form (length buffer) at ∙ rw (← e, ne-eqb n 0 h) in
       (rw (is, ne-eqb n 0 h), rw (is, ne-eqb n 0 h))
 
-  -- a report that is given leaves 20 and 15
-  pub reported-number : reported s justified .number ≡ 0 → isForm form ≡ true → number ≡ firstOf last-numbers
-  reported-number z known = number-is ∙ rw (z, known)
-
   -- what is stored of the sheet is what is written of it
-  pub stored-is-written : (t : Trailer) (vessel : ℕ) (row : List Space) (r : Stored) (after : List ℕ) → reported s justified .number ≡ 0 → isForm form ≡ true
-      → t ≡ trailerFor s justified form → vessel ≡ s .vessel → row ≡ s .spaces
-      → r ≡ stored t vessel (take (t .count) row) (length buffer) at → after ≡ storedInto t vessel (take (t .count) row) at buffer
-      → Answered (handedBack r s) after
-  unfolding written writtenInto sheetBytes losesNumber
-  stored-is-written t vessel row r after z known e₁ e₂ e₃ e₄ e₅ =
-      let n = reported-number z known in
-      (rw (e₄, e₁, e₂, e₃, n), rw (e₅, e₁, e₂, e₃, n))
+  module _ (pass : Bool) (n g m vessel : ℕ) (l : Hundredths) (row : List Space) (r : Stored) (after : List ℕ) where
+    abbrev t : Trailer
+    t = record { count = n; justified = justified; form = form; «tonnage_length» = l; gross = g; net = m }
 
--- ---- 20, 15 and the bytes
+    pub stored-is-written : firstOf (testsTo14 s justified (ltb 1 justified)) ≡ 0 → isForm form ≡ true → pass ≡ deductionsPass (standing s)
+        → n ≡ s .count → l ≡ s .length → (pass ≡ false → (g ≡ gross (standing s)) × (m ≡ net (standing s))) → vessel ≡ s .vessel → row ≡ s .spaces
+        → r ≡ stored t pass vessel (take n row) (length buffer) at → after ≡ storedInto t pass vessel (take n row) at buffer
+        → Answered (handedBack r s) after
+    unfolding written writtenInto sheetBytes losesNumber
+    stored-is-written z known e₁ e₂ e₃ figures e₄ e₅ e₆ e₇ =
+        let is = number-past-14 s justified form (length buffer) at z known in
+        by-test pass
+        (λ over.
+        let passes : deductionsPass (standing s) ≡ true = sym e₁ ∙ over in
+        let none = given-at-last (losesNumber (formOf form) s) (tooLittleRoom (formOf form) (s .count) (length buffer) at) in
+        (rw (e₆, e₂, e₄, e₅, over, is, passes) (rw none), rw (e₇, e₂, e₄, e₅, over, is, passes) (rw none)))
+        (λ within.
+        let (gross-is, net-is) = figures within in
+        let stays : deductionsPass (standing s) ≡ false = sym e₁ ∙ within in
+        (rw (e₆, e₂, e₄, e₅, within, is, stays), rw (e₇, e₂, e₃, gross-is, net-is, e₄, e₅, within, is, stays)))
 
-module _ (t : Trailer) (vessel : ℕ) (xs : List Space) (at : ℕ) (buffer : List ℕ) where
+-- ---- 20, 15, 21 and the bytes
+
+module _ (t : Trailer) (pass : Bool) (vessel : ℕ) (xs : List Space) (at : ℕ) (buffer : List ℕ) where
   abbrev pub AnsweredStore : Stored → List ℕ → Type 0
-  AnsweredStore r after = (r ≡ stored t vessel xs (length buffer) at) × (after ≡ storedInto t vessel xs at buffer)
+  AnsweredStore r after = (r ≡ stored t pass vessel xs (length buffer) at) × (after ≡ storedInto t pass vessel xs at buffer)
 
   pub loses : (lost (formOf (t .form) .vessel) vessel || losesDeck (formOf (t .form)) xs) ≡ true → AnsweredStore (record { number = 20; bytes = 0 }) buffer
   loses l = (rw l, rw l)
@@ -137,16 +180,20 @@ module _ (t : Trailer) (vessel : ℕ) (xs : List Space) (at : ℕ) (buffer : Lis
       → tooLittleRoom (formOf (t .form)) (t .count) (length buffer) at ≡ true → AnsweredStore (record { number = 15; bytes = 0 }) buffer
   no-room l r = (rw (l, r), rw (l, r))
 
+  pub over-gross : (lost (formOf (t .form) .vessel) vessel || losesDeck (formOf (t .form)) xs) ≡ false
+      → tooLittleRoom (formOf (t .form)) (t .count) (length buffer) at ≡ false → pass ≡ true → AnsweredStore (record { number = 21; bytes = 0 }) buffer
+  over-gross l r p = (rw (l, r, p), rw (l, r, p))
+
   -- as the code makes it: the records stored in the part from the named place on, and what stands behind them in the part behind
   pub stored-whole : (size end : ℕ) (b m₁ m₂ : List ℕ)
       → (lost (formOf (t .form) .vessel) vessel || losesDeck (formOf (t .form)) xs) ≡ false
-      → tooLittleRoom (formOf (t .form)) (t .count) (length buffer) at ≡ false → length xs ≡ t .count
+      → tooLittleRoom (formOf (t .form)) (t .count) (length buffer) at ≡ false → pass ≡ false → length xs ≡ t .count
       → size ≡ sheetSize (formOf (t .form)) (t .count) → end ≡ at + recordSize (formOf (t .form)) * t .count → at ≤ length buffer → size ≤ length buffer - at
       → b ≡ take at buffer ++ (m₁ ++ drop (length buffer - at) (drop at buffer))
       → m₁ ≡ sets (take (length buffer - at) (drop at buffer)) 0 (records (formOf (t .form)) xs)
       → m₂ ≡ sets (take (length b - end) (drop end b)) 0 (vesselBytes (formOf (t .form)) vessel ++ trailerBytes t)
       → AnsweredStore (record { number = 0; bytes = size }) (take end b ++ (m₂ ++ drop (length b - end) (drop end b)))
-  stored-whole size end b m₁ m₂ l r many size-is end-is from-place enough whole first second =
+  stored-whole size end b m₁ m₂ l r within many size-is end-is from-place enough whole first second =
       let f = formOf (t .form) in
       let behind = vesselBytes f vessel ++ trailerBytes t in
       let recorded : length (records f xs) ≡ recordSize f * t .count = length-records f xs ∙ ap (λ (n : ℕ). recordSize f * n) many in
@@ -158,4 +205,4 @@ module _ (t : Trailer) (vessel : ℕ) (xs : List Space) (at : ℕ) (buffer : Lis
       whole
       first
       second in
-      (rw (l, r, size-is), rw (l, r) (runs ∙ sets-eq (records f xs ++ behind) buffer at (omega (arith, all, enough, from-place))))
+      (rw (l, r, within, size-is), rw (l, r, within) (runs ∙ sets-eq (records f xs ++ behind) buffer at (omega (arith, all, enough, from-place))))

@@ -1,7 +1,7 @@
 -- Laws of `nearest`: the remainder decides it, and bounds.
 use mathlib.Core.Path.{_≡_, sym, ap, _∙_}
 use Prim.Native.Nat.{ℕ, _+_, _-_, _*_, _/_, _%_, _≤_, _<_}
-use native.Mathlib.Nat.{mul-le-mul-left, mul-le-mul-right, div-mul-le-self, lt-div-mul-add, div-lt-iff-lt-mul, div-eq-of-lt-le, div-add-mod', mul-one, mul-comm, mul-assoc, mul-left-comm, add-mul, le-trans, le-of-eq}
+use native.Mathlib.Nat.{div-zero, mul-le-mul-left, mul-le-mul-right, div-mul-le-self, lt-div-mul-add, div-lt-iff-lt-mul, div-eq-of-lt-le, div-add-mod', mul-one, mul-comm, mul-assoc, mul-left-comm, add-mul, le-trans, le-of-eq}
 use native.Mathlib.Omega.{arith}
 use Rattle.measure.specs.Rounding.{nearest}
 
@@ -10,6 +10,11 @@ doubled : (q b : ℕ) → (q * (2 * b) ≡ 2 * (q * b)) × ((q + 1) * (2 * b) �
 doubled q b =
     let e : q * (2 * b) ≡ 2 * (q * b) = mul-left-comm q 2 b in
     (e, omega (arith, add-mul q 1 (2 * b)))
+
+-- nothing is divided by 0: a quotient by it is 0
+pub nearest-by-zero : (a : ℕ) → nearest a 0 ≡ 0
+unfolding nearest
+nearest-by-zero a = div-zero (2 * a + 0)
 
 -- a remainder below a half is dropped, and one of a half or more counts as one
 pub nearest-down : (a b : ℕ) → a % b < b - a % b → a / b ≡ nearest a b

@@ -10,7 +10,7 @@ use Rattle.spaces.specs.Row.{used, amountOf, sumOf, mostSum, totalsOf, E
 use Rattle.spaces.specs.Handed.{Adds}
 use Rattle.spaces.specs.declared.space.Space.{Space}
 use Rattle.spaces.specs.declared.sums.Amount.{Amount}
-use Rattle.spaces.specs.declared.sums.Amount.the-variants.{Lengths, Hull, Hatchways, Exempt, Ballast, Deducted}
+use Rattle.spaces.specs.declared.sums.Amount.the-variants.{Lengths, Hull, Hatchways, Exempt, Ballast, Deducted, Machinery}
 use Rattle.spaces.specs.declared.sums.Totals.{Totals}
 use Rattle.spaces.proofs.laws.Row.{standing-step, standing-end}
 
@@ -52,6 +52,7 @@ pub record AllSoFar (xs : List Space) (i : ℕ) (sums : Totals) : Type 0 where
   pub exempt : SoFar Exempt xs i (sums .exempt)
   pub ballast : SoFar Ballast xs i (sums .ballast)
   pub deducted : SoFar Deducted xs i (sums .deducted)
+  pub machinery : SoFar Machinery xs i (sums .machinery)
 
 pub few : {xs : List Space} {i : ℕ} {sums : Totals} → i ≤ 200 → AllSoFar xs i sums → EachAtMost mostSum sums
 few h so =
@@ -62,6 +63,7 @@ few h so =
       exempt = small-sum h (so .exempt);
       ballast = small-sum h (so .ballast);
       deducted = small-sum h (so .deducted);
+      machinery = small-sum h (so .machinery);
     }
 
 pub all-totals : (spaces : List Space) (count : ℕ) → length spaces ≡ 200 → {i : ℕ} {sums : Totals} → i ≤ used count → used count ≤ i
@@ -75,4 +77,5 @@ all-totals spaces count full {sums = sums} within all so =
       sym (all-summed Exempt spaces count full within all (so .exempt)),
       sym (all-summed Ballast spaces count full within all (so .ballast)),
       sym (all-summed Deducted spaces count full within all (so .deducted)),
+      sym (all-summed Machinery spaces count full within all (so .machinery)),
     )

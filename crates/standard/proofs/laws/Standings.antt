@@ -1,4 +1,4 @@
--- The table of standings: nothing outside its five rows and four columns.
+-- The table of standings: nothing outside its five rows and five columns.
 use mathlib.Core.Path.{_≡_, refl, ap, _∙_}
 use mathlib.Core.Bool.{false}
 use Prim.Native.Nat.{ℕ, zero, suc, _-_, _<_}
@@ -9,7 +9,7 @@ no-row : (k standing : ℕ) → mayTake (suc (suc (suc (suc (suc (suc k)))))) st
 unfolding mayTake
 no-row k standing = refl
 
-no-column : (kind s : ℕ) → mayTake kind (suc (suc (suc (suc s)))) ≡ false
+no-column : (kind s : ℕ) → mayTake kind (suc (suc (suc (suc (suc s))))) ≡ false
 unfolding mayTake
 no-column zero s = refl
 no-column (suc zero) s = refl
@@ -24,7 +24,7 @@ kind-outside kind standing h =
     let e : kind ≡ suc (suc (suc (suc (suc (suc (kind - 6)))))) = omega arith in
     ap (λ (k : ℕ). mayTake k standing) e ∙ no-row (kind - 6) standing
 
-pub standing-outside : (kind standing : ℕ) → 3 < standing → mayTake kind standing ≡ false
+pub standing-outside : (kind standing : ℕ) → 4 < standing → mayTake kind standing ≡ false
 standing-outside kind standing h =
-    let e : standing ≡ suc (suc (suc (suc (standing - 4)))) = omega arith in
-    ap (mayTake kind) e ∙ no-column kind (standing - 4)
+    let e : standing ≡ suc (suc (suc (suc (suc (standing - 5))))) = omega arith in
+    ap (mayTake kind) e ∙ no-column kind (standing - 5)

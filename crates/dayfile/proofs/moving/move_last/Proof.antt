@@ -1,7 +1,7 @@
 -- `move_last` meets its contract: refused by its form, as the file is read, or as the sheet read is written.
-use mathlib.Core.Path.{ap, _∙_}
+use mathlib.Core.Path.{_∙_}
 use Rattle.measure.proofs.laws.Tests.{holds, fails}
-use Rattle.sheet.specs.declared.calls.Figures.{Figures}
+use Rattle.sheet.proofs.laws.Report.{given-past-14}
 use Rattle.dayfile.specs.Handed.{handedBack}
 use Rattle.dayfile.proofs.laws.Reading.{read-reports}
 use Rattle.dayfile.proofs.laws.Moving.{no-form, unread, read-and-written}
@@ -44,9 +44,9 @@ store-sheet-requires c κs =
     let r = c .before .before .before .before .before in
     let f = r .before .before in
     let a = f .before .before .before .args in
-    let figures = c .before .figures .ensures in
-    let given = ap (λ (x : Figures). x .number) figures ∙ read-reports (a .from .now) (r .read .result) (r .read .ensures) (c .before .before .before .if2 .left) in
-    (record { are = figures; given = given }, holds (f .is-form .ensures) (r .before .if1 .left))
+    let given = read-reports (a .from .now) (r .read .result) (r .read .ensures) (c .before .before .before .if2 .left) in
+    let read = r .read .result in
+    (record { are = c .before .figures .ensures; past-14 = given-past-14 (read .sheet) (read .justified) given }, holds (f .is-form .ensures) (r .before .if1 .left))
 
 same-length : tie.Need-same-length
 same-length c = search needs

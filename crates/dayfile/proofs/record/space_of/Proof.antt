@@ -37,7 +37,7 @@ judged : (c : tie.After-in-ranges)
 judged c =
     let g = c .before .before .before .before in
     c .in-ranges .ensures
-    ∙ ap (λ (deck : ℕ). inRanges (each (λ x. x .least) (recordFields (g .before .args .form))) (9999 ∷ 65535 ∷ 5 ∷ 3 ∷ 0 ∷ 100000000 ∷ 150000 ∷ deck ∷ 0 ∷ []) (g .before .args .t2)) (g .greatest-in .ensures)
+    ∙ ap (λ (deck : ℕ). inRanges (each (λ x. x .least) (recordFields (g .before .args .form))) (9999 ∷ 65535 ∷ 5 ∷ 4 ∷ 0 ∷ 100000000 ∷ 150000 ∷ deck ∷ 0 ∷ []) (g .before .args .t2)) (g .greatest-in .ensures)
 
 -- so a number that is judged to be in its range is at most its greatest
 at-most : (c : tie.After-in-ranges) (i : ℕ) → i < 9 → c .in-ranges .result ≡ true

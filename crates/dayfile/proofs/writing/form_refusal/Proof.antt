@@ -15,7 +15,14 @@ returns-2 : tie.Need-returns-2
 returns-2 c = rw (ne-eqb _ 1 (c .before .before .if1 .left), fails (c .before .is-form .ensures) (c .if2 .taken))
 
 returns-3 : tie.Need-returns-3
-returns-3 c = rw (ne-eqb _ 1 (c .before .before .if1 .left), holds (c .before .is-form .ensures) (c .if2 .left))
+returns-3 c =
+    let f = c .before .before in
+    rw (ne-eqb _ 1 (f .before .if1 .left), holds (f .is-form .ensures) (c .before .if2 .left), eq-eqb _ 21 (c .if3 .taken))
+
+returns-4 : tie.Need-returns-4
+returns-4 c =
+    let f = c .before .before in
+    rw (ne-eqb _ 1 (f .before .if1 .left), holds (f .is-form .ensures) (c .before .if2 .left), ne-eqb _ 21 (c .if3 .left))
 
 pub form-refusal-spec : {M : Type 1} → statement M
-form-refusal-spec = tie.close (tie.spec returns is-form-requires returns-2 returns-3)
+form-refusal-spec = tie.close (tie.spec returns is-form-requires returns-2 returns-3 returns-4)

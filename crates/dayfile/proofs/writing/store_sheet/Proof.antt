@@ -2,8 +2,8 @@
 use mathlib.Core.Path.{_∙_}
 use native.Mathlib.Omega.{arith}
 use Rattle.sheet.proofs.laws.Sheet.{standing-count-le}
-use Rattle.sheet.proofs.laws.Report.{given-figures, handed-out}
-use Rattle.dayfile.proofs.laws.Writing.{trailer-is, stored-is-written}
+use Rattle.sheet.proofs.laws.Report.{figures-past-14, handed-out}
+use Rattle.dayfile.proofs.laws.Writing.{stored-is-written}
 use borrow.Author.Needs.{needs}
 use Rattle.dayfile.proofs.writing.store_sheet.Statement.{statement}
 use Rattle.dayfile.proofs.writing.store_sheet.Tie as tie
@@ -22,7 +22,7 @@ places-requires c κs = search needs
 
 store-requires : tie.Need-store-requires
 store-requires c κs =
-    let n = c .before .before .before .before in
+    let n = c .before .before .before .before .before in
     omega (arith, n .standing-count .ensures, standing-count-le (n .before .before .args .sheet))
 
 same-length : tie.Need-same-length
@@ -30,16 +30,25 @@ same-length c = search needs
 
 returns : tie.Need-returns
 returns c =
-    let p = c .before .before .before .before in
-    let n = p .before .before .before in
+    let st = c .before .before in
+    let p = st .before .before in
+    let n = p .before .before .before .before in
     let start = n .before .before in
     let a = start .args in
     let reports = start .pre .0 in
-    let g = given-figures (a .sheet) (a .justified) (a .figures) (reports .are) (reports .given) in
-    let out = handed-out (a .sheet) (g .is-usable) in
-    let trailer = trailer-is (a .sheet) (a .justified) (a .form) _ _ _ _ (n .standing-count .ensures ∙ out .count-is) (p .before .before .tonnage-length .ensures ∙ out .length-is) (g .gross-is) (g .net-is) in
-    stored-is-written (a .sheet) (a .justified) (a .form) (a .at) (a .buf .now) _ _ _ _ _ (g .number-is) (start .pre .1) trailer (p .before .vessel .ensures ∙ out .vessel-is) (p .places .ensures ∙ out .places-are) (c .before .before .store .ensures .0)
-    (c .before .before .store .ensures .1)
+    let f = figures-past-14 (a .sheet) (a .justified) (a .figures) (reports .are) (reports .past-14) in
+    let out = handed-out (a .sheet) (f .is-usable) in
+    stored-is-written (a .sheet) (a .justified) (a .form) (a .at) (a .buf .now) _ _ _ _ _ _ _ _ _
+    (reports .past-14)
+    (start .pre .1)
+    (f .pass-is)
+    (n .standing-count .ensures ∙ out .count-is)
+    (p .before .before .before .tonnage-length .ensures ∙ out .length-is)
+    (f .figures-are)
+    (p .before .vessel .ensures ∙ out .vessel-is)
+    (p .places .ensures ∙ out .places-are)
+    (st .store .ensures .0)
+    (st .store .ensures .1)
 
 pub store-sheet-spec : {M : Type 1} → statement M
 store-sheet-spec =

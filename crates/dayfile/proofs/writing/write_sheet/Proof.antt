@@ -1,7 +1,8 @@
--- `write_sheet` meets its contract: refused as its report is or by its form; else what is stored of the sheet.
+-- `write_sheet` meets its contract: refused with 1, 2, 13 or 14 as its report is or by its form; else what is stored of the sheet.
 use mathlib.Core.Path.{_≡_, sym, ap, _∙_}
 use Rattle.sheet.specs.Calls.{reported}
 use Rattle.sheet.specs.declared.calls.Figures.{Figures}
+use Rattle.dayfile.specs.Forms.{isForm}
 use Rattle.dayfile.specs.Handed.{formRefusal, handedBack}
 use Rattle.dayfile.specs.declared.writing.Stored.{Stored}
 use Rattle.dayfile.proofs.laws.Writing.{none-refused, refused-with}
@@ -17,9 +18,9 @@ form-refusal-requires c κs = search needs
 
 -- 1, 2, 13 or 14, by the report in hand
 refusal-is : (c : tie.After-form-refusal)
-    → (let a = c .before .before .before .args in c .form-refusal .result ≡ formRefusal (reported (a .sheet) (a .justified) .number) (a .form))
+    → (let a = c .before .before .before .args in c .form-refusal .result ≡ formRefusal (reported (a .sheet) (a .justified) .number) (isForm (a .form)))
 refusal-is c =
-    c .form-refusal .ensures ∙ ap (λ (r : Figures). formRefusal (r .number) (c .before .before .before .args .form)) (c .before .figures .ensures)
+    c .form-refusal .ensures ∙ ap (λ (r : Figures). formRefusal (r .number) (isForm (c .before .before .before .args .form))) (c .before .figures .ensures)
 
 refused-requires : tie.Need-refused-requires
 refused-requires c κs = search needs
@@ -34,8 +35,9 @@ returns c =
 store-sheet-requires : tie.Need-store-sheet-requires
 store-sheet-requires c κs =
     let f = c .before .before in
-    let none = none-refused (f .before .figures .result .number) (f .before .before .before .args .form) (sym (f .form-refusal .ensures) ∙ c .before .if1 .left) in
-    (record { are = f .before .figures .ensures; given = none .0 }, none .1)
+    let a = f .before .before .before .args in
+    let none = none-refused (a .sheet) (a .justified) (a .form) (sym (refusal-is f) ∙ c .before .if1 .left) in
+    (record { are = f .before .figures .ensures; past-14 = none .0 }, none .1)
 
 same-length : tie.Need-same-length
 same-length c = search needs

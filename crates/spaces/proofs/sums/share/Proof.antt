@@ -63,6 +63,12 @@ enum-told-6 c = search needs
 only-requires-8 : tie.Need-only-requires-8
 only-requires-8 c κs = search needs
 
+enum-told-7 : tie.Need-enum-told-7
+enum-told-7 c = search needs
+
+only-requires-9 : tie.Need-only-requires-9
+only-requires-9 c κs = search needs
+
 returns : tie.Need-returns
 returns c =
     let s = c .before .before .before .before .before in
@@ -91,6 +97,9 @@ returns-7 c = (rw (c .before .before .enum-told5 .given .1) (c .only7 .ensures .
 returns-8 : tie.Need-returns-8
 returns-8 c = (rw (c .before .before .enum-told6 .given .1) (c .only8 .ensures .0), c .only8 .ensures .1)
 
+returns-9 : tie.Need-returns-9
+returns-9 c = (rw (c .before .before .enum-told7 .given .1) (c .only9 .ensures .0), c .only9 .ensures .1)
+
 pub share-spec : {M : Type 1} → statement M
 share-spec =
     tie.close
@@ -114,6 +123,8 @@ share-spec =
     only-requires-7
     enum-told-6
     only-requires-8
+    enum-told-7
+    only-requires-9
     returns
     returns-2
     returns-3
@@ -121,4 +132,5 @@ share-spec =
     returns-5
     returns-6
     returns-7
-    returns-8)
+    returns-8
+    returns-9)

@@ -5,7 +5,7 @@ use native.Mathlib.Nat.{min-le-right}
 use native.Mathlib.Omega.{arith}
 use lib.ListN.{length, take}
 use Rattle.spaces.specs.Row.{used}
-use Rattle.spaces.specs.declared.sums.Amount.the-variants.{Lengths, Hull, Hatchways, Exempt, Ballast, Deducted}
+use Rattle.spaces.specs.declared.sums.Amount.the-variants.{Lengths, Hull, Hatchways, Exempt, Ballast, Deducted, Machinery}
 use Rattle.spaces.proofs.laws.Sums.{AllSoFar, none-yet, one-more, all-totals, few}
 use borrow.Author.Needs.{needs}
 use Rattle.spaces.proofs.sums.total_up.Statement.{statement}
@@ -30,6 +30,7 @@ loop-holds c = (
     exempt = none-yet _ _;
     ballast = none-yet _ _;
     deducted = none-yet _ _;
+    machinery = none-yet _ _;
   },
 )
 
@@ -67,6 +68,7 @@ loop-again c =
         exempt = one-more Exempt (a .t1) (a .count) full stands (adds .exempt) (so .exempt);
         ballast = one-more Ballast (a .t1) (a .count) full stands (adds .ballast) (so .ballast);
         deducted = one-more Deducted (a .t1) (a .count) full stands (adds .deducted) (so .deducted);
+        machinery = one-more Machinery (a .t1) (a .count) full stands (adds .machinery) (so .machinery);
       },
     )
 

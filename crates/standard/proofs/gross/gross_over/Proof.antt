@@ -14,7 +14,7 @@ unfolding hatchwayExcess
 add-result c = omega arith
 
 returns : tie.Need-returns
-unfolding grossOver
+unfolding grossOver hatchwayExcess
 returns c = omega arith
 
 pub gross-over-spec : {M : Type 1} → statement M

@@ -1,6 +1,6 @@
--- `Sheet::figures` meets its contract: the tests of 1, 2, 13 and 14, and the figures reckoned.
+-- `Sheet::figures` meets its contract: the tests of 1, 2, 13, 14 and 21, and the figures reckoned.
 use mathlib.Core.Path.{_≡_, sym, ap, _∙_}
-use mathlib.Core.Bool.{Bool, true, not, _&&_}
+use mathlib.Core.Bool.{Bool, true, false, not, _&&_}
 use mathlib.Core.List.{[], _∷_}
 use Prim.Native.Nat.{ℕ, _≤_}
 use Rattle.measure.proofs.laws.Tests.{holds, fails}
@@ -11,7 +11,7 @@ use Rattle.spaces.specs.Row.{sumOf}
 use Rattle.spaces.specs.declared.sums.Amount.the-variants.{Lengths}
 use Rattle.standard.specs.declared.gross.Reckoning.{Reckoning}
 use Rattle.sheet.specs.Sheet.{standing, usable}
-use Rattle.sheet.specs.Calls.{reportNumber, reported, reportedWith}
+use Rattle.sheet.specs.Calls.{lengthsShort, deductionsTest, reportNumber, reported, reportedWith}
 use Rattle.sheet.specs.declared.sheet.Sheet.{Sheet}
 use Rattle.sheet.specs.declared.calls.Figures.{Figures}
 use Rattle.sheet.proofs.laws.Calls.{applies, passes, not-open, is-open}
@@ -30,7 +30,7 @@ past-2 s j on one = is-open s (from-2 s j) on ∙ passes (ltb 1 j) 2 (from-13 s 
 
 past-13 : (s : Sheet) (j : ℕ) → usable s ≡ true → j ≤ 1 → sumOf Lengths (standing s) ≡ s .length .0 → firstOf ((not (usable s), 1) ∷ from-2 s j) ≡ firstOf (from-14 s j)
 past-13 s j on one full =
-    past-2 s j on one ∙ passes (not (eqb (sumOf Lengths (standing s)) (s .length .0))) 13 (from-14 s j) (ap not (eq-eqb (sumOf Lengths (standing s)) (s .length .0) full))
+    past-2 s j on one ∙ passes (lengthsShort s) 13 (from-14 s j) (ap not (eq-eqb (sumOf Lengths (standing s)) (s .length .0) full))
 
 usable-requires : tie.Need-usable-requires
 usable-requires c κs = search needs
@@ -77,15 +77,21 @@ module _ (d : tie.After-reckon) where
   short : (d .reckon .result .lengths ≡ sh .length .0 → ⊥) → reportNumber sh j ≡ 13
   short differ =
       past-2 sh j on (d .before .before .if2 .left)
-      ∙ applies (not (eqb (sumOf Lengths (standing sh)) (sh .length .0))) 13 (from-14 sh j)
+      ∙ applies (lengthsShort sh) 13 (from-14 sh j)
       (ap not (ne-eqb (sumOf Lengths (standing sh)) (sh .length .0) (λ same. differ (lengths-are ∙ same))))
 
-  -- and then the test of 14 decides
+  -- and then the tests of 14 and 21 decide
   module _ (full : d .reckon .result .lengths ≡ sh .length .0) (t : Bool) (needed : t ≡ (d .reckon .result .«needs_mark» && eqb j 0)) where
-    left : reportNumber sh j ≡ firstOf ((t, 14) ∷ [])
+    left : reportNumber sh j ≡ firstOf ((t, 14) ∷ deductionsTest sh)
     left =
         past-13 sh j on (d .before .before .if2 .left) (sym lengths-are ∙ full)
-        ∙ ap (λ (b : Bool). firstOf ((b, 14) ∷ [])) (sym (needed ∙ ap (λ (r : Reckoning). r .«needs_mark» && eqb j 0) (d .reckon .ensures)))
+        ∙ ap (λ (b : Bool). firstOf ((b, 14) ∷ deductionsTest sh)) (sym (needed ∙ ap (λ (r : Reckoning). r .«needs_mark» && eqb j 0) (d .reckon .ensures)))
+
+    last : t ≡ false → reportNumber sh j ≡ firstOf ((d .reckon .result .«deductions_pass», 21) ∷ [])
+    last justly =
+        left
+        ∙ passes t 14 (deductionsTest sh) justly
+        ∙ ap (λ (r : Reckoning). firstOf ((r .«deductions_pass», 21) ∷ [])) (sym (d .reckon .ensures))
 
 cast-if3 : tie.Need-cast-if3
 cast-if3 c = search needs
@@ -109,14 +115,26 @@ returns-4 : tie.Need-returns-4
 unfolding reported
 returns-4 c =
     let d = c .before .before .before .before .before .before in
-    let at-14 = left d (c .before .before .before .if3 .left) _ (c .before .before .unjustified .ensures) ∙ applies _ 14 [] (c .before .if4 .taken) in
+    let at-14 = left d (c .before .before .before .if3 .left) _ (c .before .before .unjustified .ensures) ∙ applies _ 14 (deductionsTest (sh d)) (c .before .if4 .taken) in
     c .no-figures4 .ensures ∙ ap (λ (n : ℕ). told n (sh d)) (sym at-14)
+
+no-figures-requires-5 : tie.Need-no-figures-requires-5
+no-figures-requires-5 c κs = search needs
 
 returns-5 : tie.Need-returns-5
 unfolding reported
 returns-5 c =
-    let d = c .before .before .before .before .before in
-    let none = left d (c .before .before .if3 .left) _ (c .before .unjustified .ensures) ∙ passes _ 14 [] (c .if4 .left) in
+    let u = c .before .before in
+    let d = u .before .before .before .before .before in
+    let at-21 = last d (u .before .before .if3 .left) _ (u .before .unjustified .ensures) (u .if4 .left) ∙ applies _ 21 [] (c .before .if5 .taken) in
+    c .no-figures5 .ensures ∙ ap (λ (n : ℕ). told n (sh d)) (sym at-21)
+
+returns-6 : tie.Need-returns-6
+unfolding reported
+returns-6 c =
+    let u = c .before in
+    let d = u .before .before .before .before .before in
+    let none = last d (u .before .before .if3 .left) _ (u .before .unjustified .ensures) (u .if4 .left) ∙ passes _ 21 [] (c .if5 .left) in
     ap (λ (r : Reckoning). record { number = 0; gross = r .gross; net = r .net }) (d .reckon .ensures)
     ∙ ap (λ (n : ℕ). told n (sh d)) (sym none)
 
@@ -136,4 +154,6 @@ figures-spec =
     unjustified-requires
     no-figures-requires-4
     returns-4
-    returns-5)
+    no-figures-requires-5
+    returns-5
+    returns-6)

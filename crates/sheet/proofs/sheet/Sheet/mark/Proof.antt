@@ -7,6 +7,7 @@ use Rattle.sheet.specs.Sheet.{standing, usable}
 use Rattle.sheet.specs.declared.changes.Change.{Change}
 use mathlib.Core.List.{_∷_}
 use lib.Dec.{ltb}
+use Rattle.standard.specs.Standings.{greatestStanding}
 use Rattle.standard.specs.Rules.{markTests, markNumber, markRuling}
 use Rattle.standard.specs.declared.rules.Ruling.{Ruling}
 use Rattle.measure.specs.Refusals.{firstOf}
@@ -26,7 +27,7 @@ unfolding marked
 returns c =
     let a = c .before .before .args in
     let sh = a .self in
-    answered-1 sh (changed (marking sh (a .id) (a .standing)) sh) ((ltb 3 (a .standing), 2) ∷ markTests (standing sh) (a .id) (a .standing))
+    answered-1 sh (changed (marking sh (a .id) (a .standing)) sh) ((ltb greatestStanding (a .standing), 2) ∷ markTests (standing sh) (a .id) (a .standing))
     (fails (c .before .usable .ensures .usable-is) (c .if1 .taken))
 
 returns-2 : tie.Need-returns-2
@@ -35,9 +36,9 @@ returns-2 c =
     let u = c .before .before in
     let a = u .before .args in
     let sh = a .self in
-    answered-2 sh (changed (marking sh (a .id) (a .standing)) sh) (ltb 3 (a .standing)) (markTests (standing sh) (a .id) (a .standing))
+    answered-2 sh (changed (marking sh (a .id) (a .standing)) sh) (ltb greatestStanding (a .standing)) (markTests (standing sh) (a .id) (a .standing))
     (holds (u .usable .ensures .usable-is) (c .before .if1 .left))
-    (lt-ltb 3 (a .standing) (c .if2 .taken))
+    (lt-ltb greatestStanding (a .standing) (c .if2 .taken))
 
 mark-ruling-requires : tie.Need-mark-ruling-requires
 mark-ruling-requires c κs = search needs
@@ -54,7 +55,7 @@ change-is c =
     ap (λ (r : Ruling). Marked (r .place) (r .space .standing) st) (c .mark-ruling .ensures)
 
 -- the sheet is open and the standing in its range: the number is the ruling's
-ruled : (c : tie.After-mark-ruling) → (let s = c .before .before .before .before .before in firstOf ((not (usable (s .args .self)), 1) ∷ (ltb 3 (s .args .standing), 2) ∷ markTests (standing (s .args .self)) (s .args .id) (s .args .standing)) ≡ c .mark-ruling .result .number)
+ruled : (c : tie.After-mark-ruling) → (let s = c .before .before .before .before .before in firstOf ((not (usable (s .args .self)), 1) ∷ (ltb greatestStanding (s .args .standing), 2) ∷ markTests (standing (s .args .self)) (s .args .id) (s .args .standing)) ≡ c .mark-ruling .result .number)
 ruled c =
     let t = c .before .before in
     let u = t .before in
@@ -62,7 +63,7 @@ ruled c =
     let sh = s .args .self in
     let st = s .args .standing in
     let on = holds (u .before .usable .ensures .usable-is) (u .if1 .left) in
-    within sh (ltb 3 st) (markTests (standing sh) (s .args .id) st) on (le-ltb 3 st (t .if2 .left)) ∙ sym (number-is c)
+    within sh (ltb greatestStanding st) (markTests (standing sh) (s .args .id) st) on (le-ltb greatestStanding st (t .if2 .left)) ∙ sym (number-is c)
 
 -- what the ruling says
 judged : (n : tie.After-mark-ruling) → (let s = n .before .before .before .before .before in let sh = s .args .self in answered (n .mark-ruling .result .number) sh (changed (marking sh (s .args .id) (s .args .standing)) sh) ≡ marked sh (s .args .id) (s .args .standing))
