@@ -2,12 +2,14 @@
 use crate::fummidrake as proved;
 use crate::plain::{self, by_value::After};
 
-/// What is seen of an answer: the paper's number, the values, 0 where there are fewer than four, and what the rounding did.
+/// What is seen of an answer: the paper's number, the values, 0 where there are fewer than four, what the rounding did, and how many
+/// enclosing spaces were visited.
 #[derive(Debug, PartialEq)]
 pub struct Seen {
     pub number: u8,
     pub values: [u64; 4],
     pub roundings: proved::Roundings,
+    pub visited: u8,
 }
 
 /// An answer to a call on a sheet.
@@ -17,11 +19,11 @@ pub trait Answer<S> {
 }
 
 impl Seen {
-    /// An answer that says nothing of roundings.
+    /// An answer that says nothing of roundings and spaces visited.
     fn new<const N: usize>(number: u8, answered: [u64; N]) -> Seen {
         let mut values = [0; 4];
         values[..N].copy_from_slice(&answered);
-        Seen { number, values, roundings: proved::Roundings { length: 0, depths: [0; 17] } }
+        Seen { number, values, roundings: proved::Roundings { length: 0, depths: [0; 17] }, visited: 0 }
     }
 
     fn accepted<const N: usize>(answered: [u64; N]) -> Seen {
@@ -52,7 +54,14 @@ impl Answer<proved::Sheet> for proved::Changed {
 impl Answer<proved::Sheet> for proved::Entering {
     fn settle(self, sheet: &mut proved::Sheet) -> Seen {
         *sheet = self.sheet;
-        Seen { roundings: self.roundings, ..Seen::new(self.number, []) }
+        Seen { roundings: self.roundings, visited: self.visited, ..Seen::new(self.number, []) }
+    }
+}
+
+impl Answer<proved::Sheet> for proved::TankEntering {
+    fn settle(self, sheet: &mut proved::Sheet) -> Seen {
+        *sheet = self.sheet;
+        Seen { visited: self.visited, ..Seen::new(self.number, []) }
     }
 }
 
@@ -103,6 +112,12 @@ impl<A: Answer<plain::Sheet>> Answer<plain::Sheet> for After<A> {
     fn settle(self, sheet: &mut plain::Sheet) -> Seen {
         *sheet = self.sheet;
         self.answer.settle(sheet)
+    }
+}
+
+impl<A: Answer<plain::Sheet>> Answer<plain::Sheet> for plain::Visiting<A> {
+    fn settle(self, sheet: &mut plain::Sheet) -> Seen {
+        Seen { visited: self.visited, ..self.answer.settle(sheet) }
     }
 }
 

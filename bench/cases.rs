@@ -4,11 +4,12 @@ use crate::desk::{Call, Desks};
 use crate::fummidrake::{breadths_at_station, lay_out, stations, Entry, Tank};
 use crate::timing::Side;
 
-/// A call, and the desks on which it is made.
+/// A call, the desks on which it is made, and the number that it gives there.
 pub struct Case {
     pub name: String,
     pub desks: Desks,
     pub call: Box<dyn Call>,
+    pub number: u8,
 }
 
 const UNDER_DECK: u8 = 1;
@@ -17,6 +18,7 @@ const HATCHWAY: u8 = 4;
 const ROOM: u8 = 5;
 const PLAIN: u8 = 0;
 const EXEMPT: u8 = 1;
+const NO_STANDING: u8 = 5;
 const UPRIGHT: u8 = 2;
 const POINTED: u8 = 3;
 
@@ -107,7 +109,7 @@ pub fn size_of_sheet(count: u16, form: u8) -> usize {
 impl Case {
     /// Makes the call once, on copies of the desks.
     pub fn compare(&self) -> Result<(), String> {
-        self.call.accept(&mut self.desks.clone())
+        self.call.expect(self.number, &mut self.desks.clone())
     }
 
     pub fn sides(&mut self) -> [Side<'_>; 3] {
@@ -115,7 +117,7 @@ impl Case {
     }
 
     fn new(name: impl Into<String>, desks: Desks, call: Box<dyn Call>) -> Case {
-        Case { name: name.into(), desks, call }
+        Case { name: name.into(), desks, call, number: 0 }
     }
 
     /// A call on a sheet of so many spaces.
@@ -128,6 +130,11 @@ impl Case {
         earlier.iter().try_for_each(|call| call.accept(&mut self.desks))?;
         Ok(self)
     }
+
+    /// The same, refused with a number.
+    fn refused(self, number: u8) -> Case {
+        Case { number, ..self }
+    }
 }
 
 fn enter_hatchway(count: u16) -> Result<Case, String> {
@@ -137,6 +144,13 @@ fn enter_hatchway(count: u16) -> Result<Case, String> {
 
 fn enter_last(count: u16) -> Result<Case, String> {
     Case::on(format!("enter the last of {count}, at level 8"), count - 1, space(count, 0))
+}
+
+/// A room that is refused with a number: in 9 it would stand at level 8, in 10 at level 9.
+fn refuse_last(within: u16, standing: u8, number: u8) -> Result<Case, String> {
+    let name = format!("refuse the last of {PLACES} with {number}, at level {}", within - 1);
+    let room = Entry { id: PLACES, within, kind: ROOM, standing, length: 100, ..Entry::default() };
+    Ok(Case::on(name, PLACES - 1, undivided(room, 100, 100))?.refused(number))
 }
 
 /// A U where the one that stood was withdrawn.
@@ -236,6 +250,8 @@ pub fn cases() -> Result<Vec<Case>, String> {
         enter_hatchway(100),
         enter_hatchway(PLACES - 1),
         enter_last(PLACES),
+        refuse_last(10, PLAIN, 7),
+        refuse_last(9, NO_STANDING, 2),
         enter_under_deck("U", space(2, 0)),
         enter_under_deck("pointed U", pointed(2)),
         enter_tank(),

@@ -30,12 +30,17 @@ pub trait Call {
     /// What makes it again and again for the clock, on the sheets as they lie there: proved, by value and in place.
     fn sides<'a>(&'a self, desks: &'a mut Desks) -> [Side<'a>; 3];
 
+    /// Makes it where it has to give a number.
+    fn expect(&self, expected: u8, desks: &mut Desks) -> Result<(), String> {
+        match self.make(desks)?.number {
+            number if number == expected => Ok(()),
+            number => Err(format!("{}: answered with {number}, not {expected}", self.name())),
+        }
+    }
+
     /// Makes it where it has to be accepted.
     fn accept(&self, desks: &mut Desks) -> Result<(), String> {
-        match self.make(desks)?.number {
-            0 => Ok(()),
-            number => Err(format!("{}: refused with {number}", self.name())),
-        }
+        self.expect(0, desks)
     }
 }
 

@@ -19,6 +19,9 @@ const NUMBERS: [(&str, &[u8]); 13] = [
     ("move", &[0, 2, 16, 17, 13, 14, 21, 18, 20, 15]),
 ];
 
+/// How many enclosing spaces have to be visited by each call; a tank seldom names a room, so that not all are asked of it.
+const VISITED: [(&str, &[u8]); 2] = [("enter", &[0, 1, 2, 3, 4, 5, 6, 7, 8]), ("tank", &[0, 1, 2, 8])];
+
 /// The classes of machinery, by what part of the gross it is (69.121(e)(2)).
 const CLASSES: [&str; 3] = ["13% or less", "more than 13% but less than 20%", "20% or more"];
 
@@ -26,6 +29,8 @@ const CLASSES: [&str; 3] = ["13% or less", "more than 13% but less than 20%", "2
 pub struct Occurred {
     /// Calls, by the first words of their names, each with a number that it gave.
     answers: BTreeSet<(String, u8)>,
+    /// The same, each with how many enclosing spaces it visited.
+    visited: BTreeSet<(String, u8)>,
     classes: [bool; CLASSES.len()],
     lengths: Rounded,
     depths: Rounded,
@@ -50,6 +55,7 @@ impl Occurred {
     pub fn note(&mut self, name: &str, seen: &Seen) {
         let call = name.split(' ').next().unwrap_or(name);
         self.answers.insert((call.to_string(), seen.number));
+        self.visited.insert((call.to_string(), seen.visited));
         self.lengths.note(&[seen.roundings.length]);
         self.depths.note(&seen.roundings.depths);
     }
@@ -66,6 +72,12 @@ impl Occurred {
             let missing = |number: &&u8| !self.answers.contains(&(call.to_string(), **number));
             if let Some(number) = numbers.iter().find(missing) {
                 return Err(format!("no {call} at random was answered with {number}"));
+            }
+        }
+        for (call, counts) in VISITED {
+            let missing = |count: &&u8| !self.visited.contains(&(call.to_string(), **count));
+            if let Some(count) = counts.iter().find(missing) {
+                return Err(format!("no {call} at random visited {count} enclosing spaces"));
             }
         }
         if let Some((class, _)) = CLASSES.iter().zip(self.classes).find(|(_, occurred)| !occurred) {

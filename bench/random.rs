@@ -1,5 +1,5 @@
-//! Calls at random, made on each desk: so many that every call gives each of its numbers, machinery of each class is reported, and third
-//! intervals are rounded both ways.
+//! Calls at random, made on each desk: so many that every call gives each of its numbers, machinery of each class is reported, third
+//! intervals are rounded both ways, and entries visit none to eight enclosing spaces.
 use crate::answers::Seen;
 use crate::calls;
 use crate::cases::{sheet_of, size_of_sheet, PLACES};

@@ -168,12 +168,24 @@ typedef struct {
     int8_t depths[17];
 } fummidrake_roundings;
 
-/* The number, what the rounding did, and the sheet after the call: where refused, as it came. */
+/* The number, what the rounding did, how many enclosing spaces were visited, and the sheet after the call: where refused, as it came.
+ * `visited` is a room's, refused or not: one for the named space and one for each step above it to level 1. It is at most 8, and 8
+ * only where 7 or a lower number refuses the entry; 0 where the enclosing id isn't standing, of any other kind, and on a sheet not
+ * open. */
 typedef struct {
     uint8_t number;
     fummidrake_roundings roundings;
+    uint8_t visited;
     fummidrake_sheet sheet;
 } fummidrake_entering;
+
+/* The same of a tank, which is a room, but for what the rounding did: `visited` is 1 where its enclosing id names a space at level 1,
+ * and so in a U. */
+typedef struct {
+    uint8_t number;
+    uint8_t visited;
+    fummidrake_sheet sheet;
+} fummidrake_tank_entering;
 
 /* How many changes are open, and the sheet as it came. */
 typedef struct {
@@ -285,8 +297,13 @@ FUMMIDRAKE_FIELD(fummidrake_roundings, depths, 1);
 FUMMIDRAKE_SIZE(fummidrake_roundings, 18);
 FUMMIDRAKE_FIELD(fummidrake_entering, number, 0);
 FUMMIDRAKE_FIELD(fummidrake_entering, roundings, 1);
+FUMMIDRAKE_FIELD(fummidrake_entering, visited, 19);
 FUMMIDRAKE_FIELD(fummidrake_entering, sheet, 24);
 FUMMIDRAKE_SIZE(fummidrake_entering, 5312);
+FUMMIDRAKE_FIELD(fummidrake_tank_entering, number, 0);
+FUMMIDRAKE_FIELD(fummidrake_tank_entering, visited, 1);
+FUMMIDRAKE_FIELD(fummidrake_tank_entering, sheet, 8);
+FUMMIDRAKE_SIZE(fummidrake_tank_entering, 5296);
 FUMMIDRAKE_FIELD(fummidrake_counted, undoable, 0);
 FUMMIDRAKE_FIELD(fummidrake_counted, redoable, 8);
 FUMMIDRAKE_FIELD(fummidrake_counted, sheet, 16);
@@ -331,19 +348,19 @@ fummidrake_changed fummidrake_open(uint32_t length, uint32_t vessel);
 /* Enters a space from its offsets: for a U the depths at the stations, and the breadths station by station from the bow, at each
  * from above; for a B or S one height and one breadth a station; for an H or R one of each. A pointed end of a U has no area: its
  * depth or all its breadths are 0, or its third interval of depth rounds to 0. The answer says too what the rounding of its third
- * intervals did. Refused with 1 to 10, 19. */
+ * intervals did and, refused or not, how many enclosing spaces were visited. Refused with 1 to 10, 19. */
 FUMMIDRAKE_MUST_USE
 fummidrake_entering fummidrake_enter(fummidrake_sheet sheet, fummidrake_entry entry, const uint32_t *heights, size_t heights_count,
                                      const uint32_t *breadths, size_t breadths_count);
 
 /* Enters a tank that follows the hull, a room directly inside its U, from its sections, as fummidrake_lay_out counts them: a depth a
  * section, and the breadths section by section from the bow, at each m + 1 from above, with that U's m. Where a tank station falls
- * exactly between two zones there are two sections, the fore zone's first, and the larger area is taken. Refused with 1 to 6, 9, 10,
- * 29: with 3, and with 9 by the tank's tonnage, only in a U with m whose ends the tank doesn't pass. On a sheet that no call handed
- * back 7 and 8 are there too, as of any room. */
+ * exactly between two zones there are two sections, the fore zone's first, and the larger area is taken. The answer says too, refused
+ * or not, how many enclosing spaces were visited. Refused with 1 to 6, 9, 10, 29: with 3, and with 9 by the tank's tonnage, only in a
+ * U with m whose ends the tank doesn't pass. On a sheet that no call handed back 7 and 8 are there too, as of any room. */
 FUMMIDRAKE_MUST_USE
-fummidrake_changed fummidrake_enter_tank(fummidrake_sheet sheet, fummidrake_tank tank, const uint32_t *depths, size_t depths_count,
-                                         const uint32_t *breadths, size_t breadths_count);
+fummidrake_tank_entering fummidrake_enter_tank(fummidrake_sheet sheet, fummidrake_tank tank, const uint32_t *depths,
+                                               size_t depths_count, const uint32_t *breadths, size_t breadths_count);
 
 /* Strikes out the space with an id. Refused with 1, 5, 11. */
 FUMMIDRAKE_MUST_USE
@@ -437,11 +454,18 @@ fummidrake_listing fummidrake_list(const uint8_t *file, size_t file_bytes);
 /* The same calls in place: each takes a pointer to the caller's sheet, replaces that sheet by the one that the call hands back (where
  * refused, as it was), and answers what else there is. Opening, reading and moving take no sheet, and are not among them. */
 
-/* The number, and what the rounding did. */
+/* The number, what the rounding did, and how many enclosing spaces were visited. */
 typedef struct {
     uint8_t number;
     fummidrake_roundings roundings;
+    uint8_t visited;
 } fummidrake_entering_on;
+
+/* The number, and how many enclosing spaces were visited. */
+typedef struct {
+    uint8_t number;
+    uint8_t visited;
+} fummidrake_tank_entering_on;
 
 /* How many changes are open. */
 typedef struct {
@@ -462,23 +486,26 @@ typedef struct {
     size_t bytes;
 } fummidrake_written_on;
 
-/* Enters a space on the sheet, and answers the number and what the rounding did: see fummidrake_enter. */
+/* Enters a space on the sheet, and answers the number, what the rounding did, and how many enclosing spaces were visited: see
+ * fummidrake_enter. */
 FUMMIDRAKE_MUST_USE
 static inline fummidrake_entering_on fummidrake_enter_on(fummidrake_sheet *sheet, fummidrake_entry entry, const uint32_t *heights,
                                                          size_t heights_count, const uint32_t *breadths, size_t breadths_count) {
     fummidrake_entering answer = fummidrake_enter(*sheet, entry, heights, heights_count, breadths, breadths_count);
-    fummidrake_entering_on values = {answer.number, answer.roundings};
+    fummidrake_entering_on values = {answer.number, answer.roundings, answer.visited};
     *sheet = answer.sheet;
     return values;
 }
 
-/* Enters a tank on the sheet, and answers the number: see fummidrake_enter_tank. */
+/* Enters a tank on the sheet, and answers the number and how many enclosing spaces were visited: see fummidrake_enter_tank. */
 FUMMIDRAKE_MUST_USE
-static inline uint8_t fummidrake_enter_tank_on(fummidrake_sheet *sheet, fummidrake_tank tank, const uint32_t *depths,
-                                               size_t depths_count, const uint32_t *breadths, size_t breadths_count) {
-    fummidrake_changed answer = fummidrake_enter_tank(*sheet, tank, depths, depths_count, breadths, breadths_count);
+static inline fummidrake_tank_entering_on fummidrake_enter_tank_on(fummidrake_sheet *sheet, fummidrake_tank tank,
+                                                                   const uint32_t *depths, size_t depths_count,
+                                                                   const uint32_t *breadths, size_t breadths_count) {
+    fummidrake_tank_entering answer = fummidrake_enter_tank(*sheet, tank, depths, depths_count, breadths, breadths_count);
+    fummidrake_tank_entering_on values = {answer.number, answer.visited};
     *sheet = answer.sheet;
-    return answer.number;
+    return values;
 }
 
 /* Strikes out the space with an id on the sheet, and answers the number: see fummidrake_withdraw. */

@@ -330,7 +330,7 @@ def kinds_by_standings(rng: Random, session: Session) -> Lines:
 
 
 def all_at_once(rng: Random, session: Session) -> Lines:
-    """Entries to which several numbers apply, in every way they can meet, on a sheet with places and on a full one."""
+    """Entries to which several numbers apply, in all ways they can meet, on a sheet with places; some on a full one."""
     yield "# Several numbers at once"
     yield "open 1200"
     yield divided(1, U, 1200, 600, 1200, 500)
@@ -352,10 +352,11 @@ def all_at_once(rng: Random, session: Session) -> Lines:
         if full:
             yield from (room(id, 21) for id in range(1000, 1000 + s.PLACES - len(session.sheet.spaces)))
         for within, kind, standing, length, heights, breadths in entries:
-            for id, wide, more in product((500, 21), (False, True), ([], [7])):
+            for id, wide, more in product((500, 21), (False, True), ([],) if full else ([], [7])):
                 wrong = [*breadths[:-1], 30_001] if wide else breadths
                 yield from tried(session, enter(id, within, kind, standing, length, [*heights, *more], wrong))
-            yield enter(500, within, kind, NO_STANDING, length, heights, breadths)
+            if not full:
+                yield enter(500, within, kind, NO_STANDING, length, heights, breadths)
         yield from ("counts", "report 0")
     yield from (mark(id, standing) for id in (1, 2, 3, 11, 14, 17, 21, 500, 0, 65_550) for standing in range(6))
     yield from LOOK
@@ -805,7 +806,7 @@ def tank_figures(rng: Random, session: Session) -> Lines:
 
 
 def tank_refusals(rng: Random, session: Session) -> Lines:
-    """Tanks to which several numbers apply, in every enclosing space, on a sheet with places and on a full one."""
+    """Tanks to which several numbers apply, in every enclosing space, on a sheet with places; in some on a full one."""
     yield "# Tanks: several numbers at once"
     yield from read_and_entered_anew()
     yield from (mark(3, EXEMPT), hatchway(4, 50), room(5, 1, 10), room(6, 2, 10), divided(7, B, 1200, 1200, 50, 50))
@@ -819,8 +820,9 @@ def tank_refusals(rng: Random, session: Session) -> Lines:
     for full in (False, True):
         if full:
             yield from (room(id, 5) for id in range(1000, 1000 + s.PLACES - len(session.sheet.spaces)))
+        enclosing = (1, 2, 3, 17, 77) if full else (1, 2, 3, 4, 5, 7, 17, 77, 500)
         refused_ids = ((5, 1), (5, 2)) if full else ((5, 1), (5, 2), (5, 3), (5, 77), (0, 1))
-        for id, within in (*((500, one) for one in (1, 2, 3, 4, 5, 7, 17, 77, 500)), *refused_ids):
+        for id, within in (*((500, one) for one in enclosing), *refused_ids):
             for standing, length, fore, depths, breadths in measures:
                 yield from tried(session, tank(id, within, standing, length, fore, depths, breadths))
         yield from ("counts", "report 0", tank(5, 5, PLAIN, 300, 0, *right), tank(2, 2, PLAIN, 601, 0, *right))
@@ -1166,11 +1168,12 @@ def pointed_refusals(rng: Random, session: Session) -> Lines:
     for full in (False, True):
         if full:
             yield from (room(id, 21) for id in range(1000, 1000 + s.PLACES - len(session.sheet.spaces)))
+        of_measures = (WITH_AREA, WITHOUT_AREA) if full else (WITH_AREA, WITHOUT_AREA, wrong, beyond)
         for id, standing, length, measures in product(
-            (500, 21), (PLAIN, EXEMPT, NO_STANDING), (600, 601), (WITH_AREA, WITHOUT_AREA, wrong, beyond)
+            (500, 21), (PLAIN, EXEMPT, NO_STANDING), (600, 601), of_measures
         ):
             yield from tried(session, enter(id, 0, U, standing, length, *measures, both))
-        for length, measures, ends in product((600, 601), (WITH_AREA, WITHOUT_AREA), of_ends):
+        for length, measures, ends in product((600,) if full else (600, 601), (WITH_AREA, WITHOUT_AREA), of_ends):
             yield from tried(session, enter(500, 0, U, PLAIN, length, *measures, ends))
         yield from (enter(0, 0, U, PLAIN, 600, *WITH_AREA, both), "counts", "report 0")
     yield "# Ends: a place again, 19 alone, and accepted"
@@ -1757,6 +1760,130 @@ def machinery_and_files(rng: Random, session: Session) -> Lines:
     for form, file in over.items():
         yield from (*a_thousand(), move(file, form, 1, 99, 5), *LOOK, read(file), *LOOK_AND_REPORT, write(0, 0, 9))
         yield from (before(len(file), file + over[FORM_1]), *LOOK, hatchway(1, 5), before(len(file) - 1, file), *LOOK)
+
+
+# Sections of spaces visited
+
+IN_UNDER_DECK, IN_EXEMPT = (1, *range(11, 18)), (3, *range(21, 28))  # a space of each level, from 1 to 8
+
+
+def two_chains() -> Lines:
+    """Rooms inside one another in U 1 and in an exempt S 3, down to level 8; U 2, which has no m, and hatchway 4."""
+    yield from (*read_and_entered_anew(), mark(3, EXEMPT), hatchway(4, 50))
+    yield from (*chain(1, 11, 7, 40), *chain(3, 21, 7, 40))
+
+
+def rooms_of_each_number(plain: int, exempt: int) -> tuple[str, ...]:
+    """Rooms in a space and in one that is exempt or below it: accepted if it can be, and refused with 2, 3, 4, 8 and 9.
+
+    With 6 in place of 0, 8 and 9 where it is a hatchway, with 7 where it is at level 8; with 10 on a full sheet.
+    """
+    return (
+        room(50, plain), room(50, plain, 0, NO_STANDING), enter(50, plain, R, PLAIN, 1, [], [1]), room(2, plain),
+        room(50, exempt, 0, DEDUCTED), room(50, plain, 9999),
+    )
+
+
+def rooms_of_other_causes(plain: int, exempt: int) -> tuple[str, ...]:
+    """The same refused by other causes, and with the lowest of several numbers."""
+    return (
+        # 2 by the deck, the length, the height and the breadth; 3; 4 by ids outside the range and by the enclosing id
+        room(50, plain, deck=100), enter(50, plain, R, PLAIN, 0, [1], [1]),
+        enter(50, plain, R, PLAIN, 1, [20_001], [1]), enter(50, plain, R, PLAIN, 1, [1], [0]),
+        enter(50, plain, R, PLAIN, 1, [1], [1, 1]), room(0, plain), room(10_000, plain), room(plain, plain),
+        # 2 and 3; 2 and 4; 3 and 4; 3 and 8; 4 and 9; 4, 8 and 9; 8 and 9
+        enter(50, plain, R, NO_STANDING, 1, [], []), room(2, plain, 0, NO_STANDING),
+        enter(0, plain, R, PLAIN, 1, [1] * 2, [1]), enter(50, exempt, R, EXEMPT, 1, [1], []), room(2, plain, 9999),
+        room(exempt, exempt, 9999, BALLAST), room(50, exempt, 9999, MACHINERY),
+    )
+
+
+def tanks_in_no_under_deck(within: int) -> tuple[str, ...]:
+    """Tanks that name a space other than a U: 6, and before it 2, by the standing, the fore end and the deck, and 4."""
+    return (
+        tank(50, within, PLAIN, 9, 0, [], []), tank(50, within, NO_STANDING, 9, 0, [], []),
+        tank(50, within, PLAIN, 9, 150_001, [], []), tank(50, within, EXEMPT, 9, 0, [], [], 100),
+        tank(0, within, EXEMPT, 9, 0, [], []), tank(within, within, PLAIN, 9, 0, [], []),
+    )
+
+
+def tanks_in_under_decks() -> tuple[str, ...]:
+    """Tanks that name U 1: accepted, 2, 3, 4, 9; and U 2, which has no m: 29, and 9 before it."""
+    right = ([9] * 3, [9] * 15)
+    return (
+        tank(50, 1, PLAIN, 300, 0, *right), tank(50, 1, NO_STANDING, 300, 0, *right),
+        tank(50, 1, PLAIN, 300, 0, [], []), tank(1, 1, PLAIN, 300, 0, *right), tank(50, 1, PLAIN, 601, 0, [], []),
+        tank(50, 2, PLAIN, 300, 0, [], []), tank(50, 2, PLAIN, 601, 0, [], []),
+    )
+
+
+def visited_refusals(rng: Random, session: Session) -> Lines:
+    """Rooms and tanks that name a space of each level, accepted and refused with each number, on a full sheet too."""
+    yield "# Visited: by rooms and tanks that are accepted and refused with each number, in a space of each level"
+    yield from (*two_chains(), *LOOK)
+    pairs = (*zip(IN_UNDER_DECK, IN_EXEMPT), (4, 4))
+    for plain, exempt in pairs:
+        yield from rooms_of_other_causes(plain, exempt)
+    for within in (*IN_UNDER_DECK[1:], 3, 4):
+        yield from tanks_in_no_under_deck(within)
+    for full in (False, True):
+        if full:
+            yield from (room(id, 1) for id in range(100, 100 + s.PLACES - len(session.sheet.spaces)))
+        for line in (*(line for pair in pairs for line in rooms_of_each_number(*pair)), *tanks_in_under_decks()):
+            yield from tried(session, line)
+        yield from ("counts", "report 0")
+
+
+def visited_none(rng: Random, session: Session) -> Lines:
+    """None where the enclosing id isn't standing, by other kinds that name a space of level 8, on a sheet not open."""
+    yield "# Visited: none, where the enclosing id isn't standing"
+    yield from two_chains()
+    for within in (0, 18, 50, 10_000, 65_537, 65_552):  # the last two would wrap to 1 and 16
+        yield from (room(50, within), room(2, within, 1, NO_STANDING), enter(50, within, R, EXEMPT, 1, [], [1]))
+        yield from (room(2, within), tank(50, within, PLAIN, 9, 0, [], []), tank(2, within, PLAIN, 9, 0, [], []))
+    yield "# Visited: none by other kinds, and by what is none"
+    others = ((U, 600, *WITH_AREA), (B, 1200, [9] * 7, [9] * 7), (S, 300, [9] * 3, [9] * 3), (H, 9, [9], [9]))
+    for kind, length, heights, breadths in others:
+        for id, standing, more in ((50, PLAIN, []), (50, PLAIN, [9]), (2, PLAIN, []), (50, DEDUCTED, [])):
+            yield from tried(session, enter(id, 17, kind, standing, length, heights, [*breadths, *more]))
+    yield from (enter(50, 17, kind, PLAIN, 1, [1], [1]) for kind in (0, 6, 255, 261, 2**64 - 1))
+    yield "# Visited: none on a sheet not open, whatever stood on the one before"
+    yield from ("open 99", *(room(50, within) for within in IN_UNDER_DECK), room(0, 0, 0, NO_STANDING))
+    yield from (*tanks_in_under_decks(), *tanks_in_no_under_deck(17), *LOOK)
+
+
+def visited_and_changed(rng: Random, session: Session) -> Lines:
+    """Undo, redo, marks and withdrawals: what stands counts, with refused rooms in between that change nothing."""
+    yield "# Visited: rooms inside one another undone and made again, one by one"
+    yield from (*a_thousand(), *chain(1, 11, 7, 40))
+    for id in range(17, 11, -1):
+        yield from ("undo", room(0, id), room(0, id - 1), tank(0, id - 1, PLAIN, 9, 0, [], []))
+    for id in range(12, 18):
+        yield from ("redo", room(0, id), tank(0, id, PLAIN, 9, 0, [], []))
+    yield from (room(0, 1), *LOOK, room(18, 17), "redo", *(withdraw(id) for id in range(17, 10, -1)))
+    for id in range(11, 18):
+        yield from ("undo", room(0, id))
+    yield "# Visited: after marks and withdrawals, and where an id is entered again at another level"
+    yield from (mark(14, EXEMPT), room(0, 17), room(50, 17), room(50, 16, 0, EXEMPT))
+    yield from tried(session, room(50, 16))
+    for within in (2, 12, 14, 15):
+        yield from (withdraw(17), room(50, 17), "undo", room(50, 17), withdraw(17), room(17, within), room(0, 17))
+        yield from ("undo", room(0, 17), "undo", room(0, 17), "redo", "redo", room(0, 17), "undo", "undo")
+    yield "# Visited: below a tank"
+    yield from (tank_of_a_thousand(31, 2, 300, 0, 1200, 500), *chain(31, 32, 6, 10), room(38, 37), room(0, 37), *LOOK)
+    yield from (*(tank(50, id, PLAIN, 9, 0, [], []) for id in range(31, 38)), withdraw(37), room(0, 37), room(0, 36))
+
+
+def visited_and_files(rng: Random, session: Session) -> Lines:
+    """On a sheet that was read, in either form: rooms and tanks in a space of each level, accepted and refused."""
+    for form in FORMS:
+        yield f"# Visited: on a sheet read in form {form}"
+        yield from (*a_thousand(), *chain(1, 11, 7, 40))
+        yield from (read(dayfile.bytes_of(form, session.sheet, s.NOT_MARKED)), *LOOK, room(50, 77), room(50, 17))
+        for within in IN_UNDER_DECK:
+            yield from tried(session, room(50, within))
+            yield from (room(0, within), room(50, within, 9999), tank(50, within, PLAIN, 9, 0, [], []))
+        yield from (withdraw(17), room(50, 17), room(50, 16), room(51, 50), "undo", "undo", room(50, 17), *LOOK)
 
 
 # Lines that are no calls, for each remark
@@ -2372,6 +2499,43 @@ def file_walk(rng: Random, session: Session) -> Lines:
     yield from LOOK_AND_REPORT
 
 
+def deepening(rng: Random, sheet: Sheet, most: int) -> Lines:
+    """A room, or now and then a tank, that names a space of any level, mostly one of the deepest; a fault now and then.
+
+    Mostly it is plain, and leaves a tonnage for rooms inside it.
+    """
+    levels = {space.id: s.level(sheet.spaces, space) for space in sheet.spaces if space.kind != H}
+    deepest = max(levels.values(), default=0)
+    if deepest == 0:
+        yield an_entry(rng, sheet, most, U)
+        return
+    own_level = one_of(rng, (deepest, deepest, rng.randint(1, deepest)))
+    within = one_of(rng, [id for id, level in levels.items() if level == own_level])
+    id, deck = new_id(rng, sheet, most), a_deck(rng, sheet)
+    standing = a_standing(rng, R) if rng.randrange(3) == 0 else PLAIN
+    if rng.randrange(8) == 0:
+        yield tank(id, within, standing, rng.randint(1, 99), 0, some(rng, 3, 0, 99), some(rng, 15, 0, 99), deck)
+        return
+    rest = left_in(sheet, s.find(sheet.spaces, within))
+    length, heights, breadths = of_tonnage(rng, one_of(rng, (0, rest, rest - 1, rest // 2, rest // 2, rest + 1)))
+    if rng.randrange(20) == 0:
+        heights = with_fault(rng, heights, 20_001)
+    yield enter(id, within, R, standing, length, heights, breadths, unread_ends(rng), deck)
+
+
+DEEP_ROOMS = (deepening,) * 14 + (installing, withdrawing, marking, undoing, redoing, rereading, looking)
+
+
+def deep_walk(rng: Random, session: Session) -> Lines:
+    """Mostly rooms inside one another, down to level 8 and refused below it."""
+    length = one_of(rng, (100, 1200, 4800))
+    yield opening(length, a_vessel(rng))
+    yield a_large_one(rng, 1, length, length, one_of(rng, (None, None, rng.randrange(100))))
+    for _ in range(rng.randint(20, 50)):
+        yield from DEEP_ROOMS[rng.randrange(len(DEEP_ROOMS))](rng, session.sheet, 30)
+    yield from LOOK_AND_REPORT
+
+
 def walks(rng: Random, session: Session) -> Lines:
     """Walks without end, each on a sheet of its own, now and then with calls on a sheet not open before it."""
     while True:
@@ -2388,6 +2552,7 @@ def walks(rng: Random, session: Session) -> Lines:
         yield opening(one_of(rng, TONNAGE_LENGTHS), a_vessel(rng))
         yield from walk(rng, session, one_of(rng, (8, 30, 30, 300, 9_999)), rng.randint(60, 260))
         yield from LOOK_AND_REPORT
+        yield from deep_walk(rng, session)
 
 
 def crowded(rng: Random, session: Session) -> Lines:
@@ -2410,10 +2575,11 @@ SECTIONS: tuple[Section, ...] = (
     pairs_of_ends, ends_said, pointed_refusals, pointed_and_changed, pointed_and_files, rounded_under_decks,
     rounded_levels, rounded_depths, not_rounded, decks, deck_refusals, decks_carried, vessels, forms_of_writes,
     numbers_lost, in_both_forms, days_of_both_forms, moves, refused_moves, machinery_figures, machinery_and_ballast,
-    deductions_over, machinery_changed, machinery_above_and_below, machinery_and_files, malformed, crowded,
+    deductions_over, machinery_changed, machinery_above_and_below, machinery_and_files, visited_refusals, visited_none,
+    visited_and_changed, visited_and_files, malformed, crowded,
 )
 SEEDS = range(69_107, 69_117)  # of the walks behind the sections
-CALLS_OF_A_WALK = 150
+CALLS_OF_A_WALK = 110
 MOST_UNSEEN = 10  # lines without a look at what they did
 FEW_SPACES = 30  # so many that they are looked at then, written and read back
 MOVED_SPACES = 8  # so many that they are moved

@@ -3,9 +3,9 @@
 A sheet is a value that never changes: every call answers its number, its values and the sheet after it. What can be
 undone and redone is kept as whole copies of the standing spaces, one for each open change.
 Quoted sentences are the paper's, those on tanks the request T-01's, those on ends of a U T-02's, those on roundings
-T-04's, those on deck and vessel numbers T-05's, those on machinery T-06's. Of all the numbers of refusal that apply to
-a call the lowest is given; one that can't be judged (a level in an enclosing space that doesn't stand, say) counts as
-not applying.
+T-04's, those on deck and vessel numbers T-05's, those on machinery T-06's, those on spaces visited T-07's. Of all the
+numbers of refusal that apply to a call the lowest is given; one that can't be judged (a level in an enclosing space
+that doesn't stand, say) counts as not applying.
 """
 
 from dataclasses import dataclass, replace
@@ -130,6 +130,14 @@ def below(spaces: State, space: Space) -> list[Space]:
 def level(spaces: State, space: Space) -> int:
     """'A U, B, S or H is at level 1, a room one below its enclosing space.'"""
     return len(above(spaces, space)) + 1
+
+
+def visited(spaces: State, new: Space) -> int:
+    """'The number of enclosing spaces visited: one for the named space and one for each step above it to level 1.'
+
+    It 'is 0 if the enclosing id isn't standing', as none is on a sheet not open, and of a kind that is no room.
+    """
+    return len(above(spaces, new))
 
 
 def rooms(spaces: State, id: int) -> list[Space]:
@@ -491,18 +499,19 @@ def new_space(
 def enter(
     sheet: Sheet, id: int, within: int, kind: int, standing: int, length: int, heights: Sequence[int],
     breadths: Sequence[int], fore: int = NOT_SAID, aft: int = NOT_SAID, deck: int = NO_DECK,
-) -> tuple[int, int, tuple[int, ...], Sheet]:
+) -> tuple[int, int, tuple[int, ...], int, Sheet]:
     """A new space comes last in order, whatever stood before.
 
     The enclosing id is read only for a room, what is said of the ends only for a U, the deck for every kind. 'Each U, B
     and S passes on the rounding of its length, a U also that of every station's depth'; one that is refused passes on
-    nothing.
+    nothing. 'Entry of a room, accepted or refused, answers the number of enclosing spaces visited.'
     """
     new = new_space(sheet, id, within, kind, standing, length, heights, breadths, deck)
     number = lowest(numbers_of_entry(sheet, new, heights, breadths, fore, aft))
+    seen = visited(sheet.spaces, new)
     if number:
-        return number, *m.NOTHING_ROUNDED, sheet
-    return ACCEPTED, *m.roundings(kind, sheet.length, length, heights), changed(sheet, (*sheet.spaces, new))
+        return number, *m.NOTHING_ROUNDED, seen, sheet
+    return ACCEPTED, *m.roundings(kind, sheet.length, length, heights), seen, changed(sheet, (*sheet.spaces, new))
 
 
 def new_tank(
@@ -526,11 +535,11 @@ def new_tank(
 def enter_tank(
     sheet: Sheet, id: int, within: int, standing: int, length: int, fore: int, depths: Sequence[int],
     breadths: Sequence[int], deck: int = NO_DECK,
-) -> tuple[int, Sheet]:
-    """A tank that follows the hull, entered as any room is; it passes on no rounding."""
+) -> tuple[int, int, Sheet]:
+    """A tank that follows the hull, entered as any room is; it passes on no rounding, but answers what it visited."""
     new = new_tank(sheet, id, within, standing, length, fore, depths, breadths, deck)
     number = lowest(numbers_of_tank(sheet, new, fore, depths, breadths))
-    return number, sheet if number else changed(sheet, (*sheet.spaces, new))
+    return number, visited(sheet.spaces, new), sheet if number else changed(sheet, (*sheet.spaces, new))
 
 
 def withdraw(sheet: Sheet, id: int) -> tuple[int, Sheet]:

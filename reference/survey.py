@@ -162,9 +162,9 @@ def in_a_list(numbers: Iterable[int]) -> str:
 
 
 def enter(sheet: Sheet, *entry: Any, **further: int) -> Answer:
-    """N ROUNDING DEPTHS, with one number a station of a U; refused, N 0 -."""
-    refusal, rounding, depths, after = s.enter(sheet, *entry, **further)
-    return refusal, rounding, in_a_list(depths), after
+    """N ROUNDING DEPTHS VISITED, with one number a station of a U; refused, N 0 - VISITED."""
+    refusal, rounding, depths, visited, after = s.enter(sheet, *entry, **further)
+    return refusal, rounding, in_a_list(depths), visited, after
 
 
 def spaces(sheet: Sheet) -> Answer:

@@ -16,7 +16,7 @@ from reference.scripts import (
     a_thousand, deducted, divided, enter, hatchway, machinery, mark, move, room, whole_sheet, withdraw, write,
 )
 from reference.sheet import BALLAST, CLOSED, DEDUCTED, EXEMPT, MACHINERY, PLAIN, Sheet, Space
-from reference.test_sheet import OfCalls, Step, standard_steps, steps
+from reference.test_sheet import OfCalls, Step, standard_steps, steps, steps_at_random
 
 # The paper's whole sheet, byte by byte. A record: id, enclosing id, kind, standing, zero, tonnage, length.
 EXAMPLE = bytes.fromhex(
@@ -134,7 +134,8 @@ class FileOfThePaper(OfFiles):
     def test_written_by_calls(self) -> None:
         session = survey.Session()
         self.assertEqual(
-            [session.answer(line) for line in whole_sheet()], ["0", "0 6 0,0,0,0,0,0,0", "0 2 -", *["0 0 -"] * 3]
+            [session.answer(line) for line in whole_sheet()],
+            ["0", "0 6 0,0,0,0,0,0,0 0", "0 2 - 0", "0 0 - 1", "0 0 - 1", "0 0 - 0"],
         )
         self.assertEqual(f.write(session.sheet, 0, bytes(108), 0, 1), (0, 108, EXAMPLE, session.sheet))
         self.assertEqual(session.answer("write 0 0 108"), f"0 108 {EXAMPLE.hex()}")
@@ -1753,7 +1754,7 @@ class FormsInTheStandardScript(unittest.TestCase):
 
     def test_random_sessions(self) -> None:
         """What is played at random reaches decks, vessel numbers, both forms and moves too."""
-        walked = [step for seed in range(12) for step in steps(scripts.script(seed, 400)) if step.number is not None]
+        walked = [step for step in steps_at_random() if step.number is not None]
         writes = Counter(
             (step.further.get("form", 1), step.number) for step in walked if step.call in ("write", "writef")
         )

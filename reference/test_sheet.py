@@ -7,6 +7,7 @@ from dataclasses import FrozenInstanceError, dataclass, replace
 from fractions import Fraction
 from functools import cache, cached_property
 from itertools import combinations, product
+from random import Random
 from typing import Any, Iterator, Sequence
 from unittest import mock
 
@@ -86,6 +87,11 @@ class Step:
         return [] if depths == "-" else [int(depth) for depth in depths.split(",")]
 
     @cached_property
+    def visited(self) -> int:
+        """The enclosing spaces that an entry or a tank visited."""
+        return int(self.answer.split(" ")[-1])
+
+    @cached_property
     def numbers(self) -> set[int]:
         """All that apply to an entry or a tank."""
         if self.call == "tank":
@@ -109,6 +115,18 @@ def steps_from(sheet: Sheet, line: str) -> Step:
     session = Session()
     session.sheet = sheet
     return Step(sheet, line, session.answer(line), session.sheet)
+
+
+def walked(walk: scripts.Section, seed: int) -> list[Step]:
+    """A walk of one sort, line by line."""
+    session = Session()
+    return steps("\n".join(scripts.lines_of(walk(Random(seed), session), session)))
+
+
+@cache
+def steps_at_random() -> list[Step]:
+    """Twelve scripts of calls at random, line by line."""
+    return [step for seed in range(12) for step in steps(scripts.script(seed, 1000))]
 
 
 @cache
@@ -180,7 +198,8 @@ class FiguresOfThePaper(OfCalls):
             *answer, sheet = s.enter(
                 sheet, id, within, kind, standing, length, [height] * count[0], [breadth] * count[1], *ends
             )
-            self.assertEqual(answer, {U: [0, 6, (0,) * 7], S: [0, 2, ()]}.get(kind, [0, 0, ()]))
+            expected = {U: [0, 6, (0,) * 7, 0], S: [0, 2, (), 0], R: [0, 0, (), 1], H: [0, 0, (), 0]}
+            self.assertEqual(answer, expected[kind])
         self.assertEqual(s.report(sheet, 0), (0, 12439, 12119, sheet))
         self.assertEqual((s.t(sheet.spaces), s.e(sheet.spaces), s.d(sheet.spaces)), (12801, 400, 320))
         self.assertEqual(s.counts(sheet), (0, 5, 0, sheet))
@@ -595,7 +614,7 @@ class ReadingsOfTanks(OfCalls):
             self.refused(9, tank(2, 1, 0, length, fore, *self.RIGHT), tank(2, 1, 0, length, fore, [], []))
 
     def test_refused_alone(self) -> None:
-        self.asks(tank(500, 1, 0, 300, 0, *self.RIGHT), "1")
+        self.asks(tank(500, 1, 0, 300, 0, *self.RIGHT), "1 0")
         self.on_a_read_sheet()
         depths, breadths = self.RIGHT
         for number, line in (
@@ -898,7 +917,7 @@ class ReadingsOfEnds(OfCalls):
     def test_after_all_the_others(self) -> None:
         """19 is given alone; beside any other number that one is given. Where 3 applies it isn't judged."""
         pointed = (POINTED, POINTED)
-        self.asks(enter(1, 0, U, 0, 600, *self.WITH_AREA, pointed), "1 0 -")
+        self.asks(enter(1, 0, U, 0, 600, *self.WITH_AREA, pointed), "1 0 - 0")
         self.accepted("open 1200", half(1, 1200, 1200, (UPRIGHT, INNER)))
         depths, breadths = self.WITH_AREA
 
@@ -1003,75 +1022,81 @@ class ReadingsOfRoundings(OfCalls):
         """The entry of a U with these depths and as many breadths at each."""
         return enter(9, 0, U, PLAIN, length, depths, [9] * (breadths * len(depths)))
 
+    def passes_on(self, line: str, answer: str) -> None:
+        """An entry and what it must answer, but for the spaces visited."""
+        self.assertEqual(self.session.answer(line).rpartition(" ")[0], answer, msg=line)
+
     def test_whole_sheet(self) -> None:
         """Up by 6/18 of a thousandth of a foot, the depths of the box exact; 6 times 2667 is 16002, of 16.00 ft."""
+        self.accepted(FiguresOfThePaper.WHOLE[0])
         for line, answer in zip(
-            FiguresOfThePaper.WHOLE, ("0", "0 6 0,0,0,0,0,0,0", "0 2 -", "0 0 -", "0 0 -", "0 0 -")
+            FiguresOfThePaper.WHOLE[1:], ("0 6 0,0,0,0,0,0,0", "0 2 -", "0 0 -", "0 0 -", "0 0 -")
         ):
-            self.asks(line, answer)
+            self.passes_on(line, answer)
         self.asks("report 0", "0 12439 12119")
 
     def test_every_kind(self) -> None:
         """18 times 722 is 12996, four less than 13000; 6 times 502 is 3012. Hatchways and rooms have none."""
         self.accepted("open 1300", divided(1, U, 1300, 600, 1200, 500))
         for measures, answer in zip(self.ALL, ("0 2 1,-2,-5", "0 -4 -", "0 2 -", "0 0 -", "0 0 -")):
-            self.asks(self.entry(*measures), answer)
+            self.passes_on(self.entry(*measures), answer)
             self.accepted("undo")
 
     def test_every_station_from_the_bow(self) -> None:
         """Of three stations and of seventeen, with m 4 and 6 by the middle one; the last one's is the last."""
         self.accepted("open 30001")
-        self.asks(self.under_deck(600, [0, 1, 6]), "0 0 0,-1,6")
+        self.passes_on(self.under_deck(600, [0, 1, 6]), "0 0 0,-1,6")
         self.accepted("undo")
-        self.asks(self.under_deck(600, [6, 1, 0]), "0 0 6,-1,0")
+        self.passes_on(self.under_deck(600, [6, 1, 0]), "0 0 6,-1,0")
         self.accepted("undo")
-        self.asks(self.under_deck(30_001, range(17)), "0 -10 0,-1,-2,-3,-4,-5,6,5,4,3,2,1,0,-1,-2,-3,-4")
+        self.passes_on(self.under_deck(30_001, range(17)), "0 -10 0,-1,-2,-3,-4,-5,6,5,4,3,2,1,0,-1,-2,-3,-4")
         self.accepted("undo")
-        self.asks(self.under_deck(30_001, range(1593, 1610), 7), "0 -10 9,8,7,6,5,4,3,2,1,0,-1,-2,-3,-4,-5,-6,-7")
+        self.passes_on(self.under_deck(30_001, range(1593, 1610), 7), "0 -10 9,8,7,6,5,4,3,2,1,0,-1,-2,-3,-4,-5,-6,-7")
         self.accepted("open 30000")
-        self.asks(self.under_deck(30_000, [*range(16), 20_000]), "0 0 0,-1,-2,-3,-4,-5,6,5,4,3,2,1,0,-1,-2,-3,4")
+        self.passes_on(self.under_deck(30_000, [*range(16), 20_000]), "0 0 0,-1,-2,-3,-4,-5,6,5,4,3,2,1,0,-1,-2,-3,4")
 
     def test_the_middle_depth(self) -> None:
         """1600 with m 4 is four over, 1601 with m 6 one under; the other stations' depths go by that m."""
         self.accepted("open 1200")
-        self.asks(self.under_deck(600, [1601, 1600, 1602]), "0 0 -5,-4,6")
+        self.passes_on(self.under_deck(600, [1601, 1600, 1602]), "0 0 -5,-4,6")
         self.accepted("undo")
-        self.asks(self.under_deck(600, [1600, 1601, 1602], 7), "0 0 2,1,0")
+        self.passes_on(self.under_deck(600, [1600, 1601, 1602], 7), "0 0 2,1,0")
 
     def test_the_parts_of_its_own_division(self) -> None:
         """A whole U of 20.01 ft in 6 parts, a step part in 4; a B by the tonnage length; an S at a tie in 4."""
         self.accepted("open 2001")
-        self.asks(self.under_deck(2001, [12] * 7), "0 6 0,0,0,0,0,0,0")  # 18 times 1112 is 20016
+        self.passes_on(self.under_deck(2001, [12] * 7), "0 6 0,0,0,0,0,0,0")  # 18 times 1112 is 20016
         self.accepted("open 4500")
-        self.asks(self.under_deck(2001, [12] * 5), "0 6 0,0,0,0,0")  # 12 times 1668 is 20016
-        self.asks(enter(2, 0, B, 0, 2001, [9] * 7, [9] * 7), "0 6 -")
-        self.asks(enter(3, 0, S, 0, 2000, [9] * 5, [9] * 5), "0 4 -")  # 12 times 1667 is 20004
+        self.passes_on(self.under_deck(2001, [12] * 5), "0 6 0,0,0,0,0")  # 12 times 1668 is 20016
+        self.passes_on(enter(2, 0, B, 0, 2001, [9] * 7, [9] * 7), "0 6 -")
+        self.passes_on(enter(3, 0, S, 0, 2000, [9] * 5, [9] * 5), "0 4 -")  # 12 times 1667 is 20004
         self.accepted("open 20000")
-        self.asks(enter(1, 0, B, 0, 150_000, [9] * 13, [9] * 13), "0 12 -")
+        self.passes_on(enter(1, 0, B, 0, 150_000, [9] * 13, [9] * 13), "0 12 -")
 
     def test_refused(self) -> None:
         """0 and none with every number that an entry can be refused with; accepted, none of the measures is exact."""
         for measures in self.ALL:
-            self.asks(self.entry(*measures), "1 0 -")
+            self.passes_on(self.entry(*measures), "1 0 -")
         self.accepted("open 1300", divided(1, U, 1300, 600, 1200, 500), hatchway(2, 20), *chain(1, 11, 7, 1))
         self.accepted(mark(16, EXEMPT))
         for kind, length, heights, breadths in self.ALL:
-            self.asks(self.entry(kind, length, heights, breadths, standing=5), "2 0 -")
-            self.asks(self.entry(kind, length, heights, [*breadths, 9]), "3 0 -")
-            self.asks(self.entry(kind, length, [*heights, 9], breadths), "3 0 -")
-            self.asks(self.entry(kind, length, heights, breadths, id=1), "4 0 -")
-            self.asks(self.entry(kind, length, heights, breadths, within=2, standing=DEDUCTED), "6 0 -")
+            self.passes_on(self.entry(kind, length, heights, breadths, standing=5), "2 0 -")
+            self.passes_on(self.entry(kind, length, heights, [*breadths, 9]), "3 0 -")
+            self.passes_on(self.entry(kind, length, [*heights, 9], breadths), "3 0 -")
+            self.passes_on(self.entry(kind, length, heights, breadths, id=1), "4 0 -")
+            self.passes_on(self.entry(kind, length, heights, breadths, within=2, standing=DEDUCTED), "6 0 -")
         _, length, depths, breadths = self.UNDER_DECK
-        self.asks(enter(9, 0, U, 0, length, depths, breadths, ()), "2 0 -")
-        self.asks(enter(9, 0, U, 0, 701, depths, breadths), "9 0 -")
-        self.asks(enter(9, 0, U, 0, length, depths, breadths, (POINTED, UPRIGHT)), "19 0 -")
+        self.passes_on(enter(9, 0, U, 0, length, depths, breadths, ()), "2 0 -")
+        self.passes_on(enter(9, 0, U, 0, 701, depths, breadths), "9 0 -")
+        self.passes_on(enter(9, 0, U, 0, length, depths, breadths, (POINTED, UPRIGHT)), "19 0 -")
         for within, standing, height, number in (
             (77, PLAIN, 7, 5), (17, PLAIN, 7, 7), (16, BALLAST, 7, 8), (1, PLAIN, 20_000, 9)
         ):
-            self.asks(enter(9, within, R, standing, 601, [height], [30_000 if number == 9 else 7]), f"{number} 0 -")
+            breadth = 30_000 if number == 9 else 7
+            self.passes_on(enter(9, within, R, standing, 601, [height], [breadth]), f"{number} 0 -")
         self.accepted(*(room(id, 11) for id in range(20, 20 + s.PLACES - len(self.session.sheet.spaces))))
         for measures in self.ALL:
-            self.asks(self.entry(*measures), "10 0 -")
+            self.passes_on(self.entry(*measures), "10 0 -")
 
     def test_other_calls_answer_as_before(self) -> None:
         """A tank in a U whose thirds aren't exact, with such measures itself; undo, redo, withdraw and mark.
@@ -1080,8 +1105,9 @@ class ReadingsOfRoundings(OfCalls):
         """
         self.accepted("open 1300")
         for line, answer in (
-            (self.entry(*self.UNDER_DECK), "0 2 1,-2,-5"), (tank(2, 9, 0, 301, 1, [1211, 1598, 1205], [1] * 15), "0"),
-            (tank(3, 9, 0, 301, 301, [1211, 1598, 1205], [1] * 15), "9"), ("undo", "0"), ("undo", "0"), ("redo", "0"),
+            (self.entry(*self.UNDER_DECK), "0 2 1,-2,-5 0"),
+            (tank(2, 9, 0, 301, 1, [1211, 1598, 1205], [1] * 15), "0 1"),
+            (tank(3, 9, 0, 301, 301, [1211, 1598, 1205], [1] * 15), "9 1"), ("undo", "0"), ("undo", "0"), ("redo", "0"),
             ("redo", "0"), (withdraw(2), "0"), (withdraw(9), "0"), ("undo", "0"), (mark(9, 0), "0"),
             (mark(9, 1), "6"), ("counts", "0 4 0"), ("spaces", "0 1 1300 1 0 9:0:1:0:8:601:4:0"),
         ):
@@ -1090,15 +1116,15 @@ class ReadingsOfRoundings(OfCalls):
     def test_a_pointed_end(self) -> None:
         """Its depth's third interval may be rounded to 0, which is below."""
         self.accepted("open 1200")
-        self.asks(half(1, 5, 0, (POINTED, POINTED)), "0 0 -5,0,0")
-        self.asks(half(2, 0, 11, (POINTED, INNER)), "0 0 0,0,1")
+        self.passes_on(half(1, 5, 0, (POINTED, POINTED)), "0 0 -5,0,0")
+        self.passes_on(half(2, 0, 11, (POINTED, INNER)), "0 0 0,0,1")
 
     def test_a_sheet_that_was_read(self) -> None:
         """Nothing of a rounding is kept; a space entered anew passes on its own."""
         self.accepted("open 1300", divided(1, U, 1300, 699, 1200, 500), self.entry(*self.UNDER_DECK))
         self.asks(scripts.read(dayfile.bytes_of(1, self.session.sheet, 0)), "0 0 0 0 1")
         self.asks(withdraw(9), "0")
-        self.asks(self.entry(*self.UNDER_DECK), "0 2 1,-2,-5")
+        self.passes_on(self.entry(*self.UNDER_DECK), "0 2 1,-2,-5")
 
 
 class ReadingsOfDecks(OfCalls):
@@ -1195,8 +1221,8 @@ class ReadingsOfDecks(OfCalls):
         """Tonnages, roundings and reports are as without."""
         for deck in (None, 0, 99):
             self.accepted("open 4800")
-            self.asks(divided(1, U, 4800, 4800, 1200, 2000, deck=deck), "0 6 0,0,0,0,0,0,0")
-            self.asks(divided(2, S, 4800, 1600, 800, 1000, deck=deck), "0 2 -")
+            self.asks(divided(1, U, 4800, 4800, 1200, 2000, deck=deck), "0 6 0,0,0,0,0,0,0 0")
+            self.asks(divided(2, S, 4800, 1600, 800, 1000, deck=deck), "0 2 - 0")
             self.accepted(enter(3, 1, R, BALLAST, 1000, [400], [1000], deck=deck))
             self.accepted(enter(4, 2, R, DEDUCTED, 800, [800], [500], deck=deck))
             self.accepted(enter(5, 0, H, PLAIN, 500, [500], [400], deck=deck))
@@ -1495,6 +1521,217 @@ class ReadingsOfMachinery(OfCalls):
         self.asks("report 0", "0 1001 0")
 
 
+class ReadingsOfVisited(OfCalls):
+    """How far up did it look: 'one for the named space and one for each step above it to level 1'."""
+
+    IN_UNDER_DECK, IN_EXEMPT = scripts.IN_UNDER_DECK, scripts.IN_EXEMPT
+    RIGHT = ([9] * 3, [9] * 15)  # of a tank 300 long from 0 on in a U of 600
+
+    def on_two_chains(self) -> None:
+        """Rooms of 40 inside one another in U 1 and in an exempt S 3, down to level 8; U 2 and hatchway 4."""
+        self.accepted(*a_thousand(), mark(3, EXEMPT), hatchway(4, 50), *chain(1, 11, 7, 40), *chain(3, 21, 7, 40))
+
+    def fill(self) -> None:
+        """Rooms in U 2, so many that 200 spaces stand."""
+        self.accepted(*(room(id, 2) for id in range(100, 100 + s.PLACES - len(self.session.sheet.spaces))))
+
+    def visits(self, visited: int, number: int, *lines: str) -> None:
+        """Entries and tanks that must answer so; what is accepted is undone."""
+        for line in lines:
+            before = self.session.sheet
+            answer = [int(word) for word in self.session.answer(line).split(" ") if word.isdigit()]
+            self.assertEqual((answer[0], answer[-1]), (number, visited), msg=line)
+            if number:
+                self.assertEqual(self.session.sheet, before)
+            else:
+                self.accepted("undo")
+
+    def visits_beside(self, visited: int, numbers: set[int], line: str) -> None:
+        """An entry or a tank to which just these numbers apply."""
+        self.assertEqual(self.numbers(line), numbers, msg=line)
+        self.visits(visited, min(numbers, default=0), line)
+
+    def test_whole_sheet(self) -> None:
+        answers = "0 6 0,0,0,0,0,0,0 0", "0 2 - 0", "0 0 - 1", "0 0 - 1", "0 0 - 0"
+        for line, answer in zip(FiguresOfThePaper.WHOLE, ("0", *answers)):
+            self.asks(line, answer)
+
+    def test_levels(self) -> None:
+        """In a U, a B and an S, whatever the tonnage; the eighth is visited only where 7 refuses."""
+        for outer in (divided(1, U, 1200, 600, 1200, 500), divided(1, B, 1200, 900, 500, 500),
+                      divided(1, S, 1200, 300, 933, 1000)):
+            for tonnage in (0, 20):
+                self.accepted("open 1200", outer)
+                for id in range(2, 9):
+                    self.asks(room(id, id - 1, tonnage), f"0 0 - {id - 1}")
+                self.asks(room(9, 8, tonnage), "7 0 - 8")
+                for id in range(1, 8):
+                    self.visits(id, 0, room(9, id))
+
+    def test_no_room(self) -> None:
+        """None by other kinds, nor by what is no kind, whatever space they name."""
+        self.on_two_chains()
+        for within in (0, 1, 4, 17, 77):
+            for kind, *measures in ((B, 1200, [9] * 7, [9] * 7), (S, 300, [9] * 3, [9] * 3), (H, 9, [9], [9])):
+                self.visits(0, 0, enter(50, within, kind, PLAIN, *measures))
+                self.visits(0, 2, enter(50, within, kind, 5, *measures), enter(50, within, kind, 0, *measures, (), 100))
+                self.visits(0, 4, enter(2, within, kind, PLAIN, *measures))
+                self.visits(0, 6, enter(50, within, kind, DEDUCTED, *measures))
+            self.visits(0, 9, enter(50, within, U, PLAIN, 600, *self.RIGHT))
+            self.visits(0, 3, enter(50, within, U, PLAIN, 600, [9], [9]))
+            for kind in (0, 6, 9, 255, 256, 261, 2**64 - 1):
+                self.visits(0, 2, enter(50, within, kind, PLAIN, 1, [1], [1]))
+
+    def test_a_sheet_not_open(self) -> None:
+        """None, even where a sheet stood before."""
+        for first in ("undo", "open 99", "read 00"):
+            self.given(first)
+            for within in (0, 1, 17, 77):
+                self.visits(0, 1, room(50, within), room(0, within, 9999, 5), tank(50, within, 0, 300, 0, *self.RIGHT))
+            self.on_two_chains()
+
+    def test_enclosing_id_not_standing(self) -> None:
+        """None, with 5 or a lower number."""
+        self.on_two_chains()
+        for within in (0, 50, 77, 10_000, 65_535, 65_536, 65_537, 2**16 + 17, 2**64 - 1):
+            self.visits_beside(0, {5}, room(50, within, 9999, EXEMPT))
+            self.visits_beside(0, {4, 5}, room(2, within))
+            self.visits_beside(0, {3, 5}, enter(50, within, R, PLAIN, 1, [], [1]))
+            self.visits_beside(0, {2, 5}, room(50, within, 1, 5))
+            self.visits_beside(0, {5}, tank(50, within, 0, 601, 0, [], []))
+            self.visits_beside(0, {2, 4, 5}, tank(2, within, 5, 300, 0, *self.RIGHT))
+
+    def test_refused_with_each_number(self) -> None:
+        """Alone, by each cause, in a space of each level; in one at level 8, 7 goes with it."""
+        self.on_two_chains()
+        for level, (plain, exempt) in enumerate(zip(self.IN_UNDER_DECK, self.IN_EXEMPT), start=1):
+            with_it = {7} if level == 8 else set()
+            for number, *lines in (
+                (2, room(50, plain, 0, 5), room(50, plain, 0, 255), room(50, plain, deck=100)),
+                (2, enter(50, plain, R, 0, 0, [1], [1]), enter(50, plain, R, 0, 150_001, [1], [1])),
+                (2, enter(50, plain, R, 0, 1, [0], [1]), enter(50, plain, R, 0, 1, [20_001], [1])),
+                (2, enter(50, plain, R, 0, 1, [1], [0]), enter(50, plain, R, 0, 1, [1], [30_001])),
+                (3, enter(50, plain, R, 0, 1, [], [1]), enter(50, plain, R, 0, 1, [1], [1, 1])),
+                (4, room(0, plain), room(10_000, plain), room(2, plain), room(plain, plain), room(17, plain)),
+                (8, *(room(50, exempt, 0, standing) for standing in s.NOT_PLAIN)),
+                (9, room(50, plain, 361), room(50, exempt, 281)),
+            ):
+                for line in lines:
+                    self.visits_beside(level, {number} | with_it, line)
+            self.visits_beside(level, with_it, room(50, plain))
+        self.fill()
+        for level, plain in enumerate(self.IN_UNDER_DECK, start=1):
+            self.visits_beside(level, {7, 10} if level == 8 else {10}, room(50, plain))
+
+    def test_refused_with_the_lowest_of_several(self) -> None:
+        self.on_two_chains()
+        for full in (set(), {10}):
+            if full:
+                self.fill()
+            for level, (plain, exempt) in enumerate(zip(self.IN_UNDER_DECK, self.IN_EXEMPT), start=1):
+                with_them = full | ({7} if level == 8 else set())
+                for numbers, line in (
+                    ({2, 3}, enter(50, plain, R, 5, 1, [], [])), ({2, 4}, room(2, plain, 0, 5)),
+                    ({2, 3, 4}, enter(0, plain, R, 0, 0, [1] * 2, [])), ({3, 4}, enter(2, plain, R, 0, 1, [], [1])),
+                    ({3, 8}, enter(50, exempt, R, EXEMPT, 1, [1], [])), ({4, 9}, room(2, plain, 361)),
+                    ({4, 8}, room(exempt, exempt, 0, BALLAST)), ({8, 9}, room(50, exempt, 281, MACHINERY)),
+                    ({4, 8, 9}, room(2, exempt, 281, DEDUCTED)), ({2, 8}, room(50, exempt, 0, EXEMPT, 100)),
+                ):
+                    self.visits_beside(level, numbers | with_them, line)
+
+    def test_in_a_hatchway(self) -> None:
+        """It is visited, though it encloses nothing."""
+        self.on_two_chains()
+        for full in (set(), {10}):
+            if full:
+                self.fill()
+            for numbers, line in (
+                ({6}, room(50, 4)), ({6, 9}, room(50, 4, 51, EXEMPT)), ({4, 6}, room(4, 4)), ({4, 6}, room(0, 4)),
+                ({3, 6}, enter(50, 4, R, PLAIN, 1, [], [1])), ({2, 6}, room(50, 4, 0, 5)),
+                ({6}, tank(50, 4, PLAIN, 9, 0, [], [])), ({2, 4, 6}, tank(4, 4, 5, 9, 0, [], [])),
+            ):
+                self.visits_beside(1, numbers | full, line)
+
+    def test_own_id(self) -> None:
+        """The room's own id as enclosing id: from the space that stands with it."""
+        self.on_two_chains()
+        for level, own in enumerate(self.IN_UNDER_DECK, start=1):
+            self.visits(level, 4, room(own, own), tank(own, own, PLAIN, 300, 0, *self.RIGHT))
+        self.visits(0, 5, room(50, 50), tank(50, 50, PLAIN, 9, 0, [], []))
+        self.visits(0, 4, room(0, 0), tank(0, 0, PLAIN, 9, 0, [], []))
+
+    def test_tanks(self) -> None:
+        """One in a space at level 1; in a room, which is no U, its level."""
+        self.accepted(*read_and_entered_anew(), hatchway(4, 50), divided(5, B, 1200, 1200, 50, 50))
+        self.accepted(*chain(1, 11, 7, 40))
+        self.asks(tank(50, 1, PLAIN, 300, 0, *self.RIGHT), "0 1")
+        self.accepted("undo")
+        for numbers, line in (
+            ({2}, tank(50, 1, 5, 300, 0, *self.RIGHT)), ({2}, tank(50, 1, 0, 300, 0, *self.RIGHT, 100)),
+            ({2, 9}, tank(50, 1, 0, 300, 150_001, *self.RIGHT)), ({3}, tank(50, 1, 0, 300, 0, [], [])),
+            ({4}, tank(0, 1, 0, 300, 0, *self.RIGHT)), ({4}, tank(1, 1, 0, 300, 0, *self.RIGHT)),
+            ({9}, tank(50, 1, 0, 601, 0, [], [])), ({9}, tank(50, 1, 0, 600, 0, [1200] * 3, [500] * 15)),
+            ({29}, tank(50, 2, 0, 300, 0, [], [])), ({9, 29}, tank(50, 2, 0, 601, 0, [], [])),
+            ({6}, tank(50, 3, 0, 9, 0, [], [])), ({6}, tank(50, 4, 0, 9, 0, [], [])),
+            ({6}, tank(50, 5, 0, 9, 0, [], [])),
+        ):
+            self.visits_beside(1, numbers, line)
+        for level, within in enumerate(self.IN_UNDER_DECK[1:], start=2):
+            with_them = {6, 7} if level == 8 else {6}
+            for numbers, line in (
+                (set(), tank(50, within, PLAIN, 9, 0, [], [])), (set(), tank(50, within, PLAIN, 601, 0, *self.RIGHT)),
+                ({2}, tank(50, within, 5, 9, 0, [], [])), ({2}, tank(50, within, 0, 9, 0, [20_001], [])),
+                ({2}, tank(50, within, 0, 9, 0, [], [], 100)), ({4}, tank(0, within, 0, 9, 0, [], [])),
+                ({2, 4}, tank(2, within, 5, 9, 0, [], [])),
+            ):
+                self.visits_beside(level, numbers | with_them, line)
+        self.fill()
+        self.visits_beside(1, {10}, tank(50, 1, 0, 300, 0, *self.RIGHT))
+        self.visits_beside(1, {10, 29}, tank(50, 2, 0, 300, 0, *self.RIGHT))
+        self.visits_beside(5, {6, 10}, tank(50, 14, 0, 300, 0, *self.RIGHT))
+
+    def test_below_a_tank(self) -> None:
+        self.accepted(*a_thousand())
+        self.asks(tank_of_a_thousand(11, 1, 300, 0, 1200, 500), "0 1")
+        for id in range(12, 18):
+            self.asks(room(id, id - 1, 10), f"0 0 - {id - 10}")
+        self.asks(room(18, 17), "7 0 - 8")
+
+    def test_what_stands_counts(self) -> None:
+        """Withdrawals, undo and redo take spaces away and bring them back; an id entered again has its new level."""
+        self.accepted(*a_thousand(), *chain(1, 11, 7, 40))
+        for id in range(17, 10, -1):
+            self.visits(id - 9, 4, room(0, id))
+            self.accepted("undo")
+            self.visits(0, 5, room(50, id))
+        for id in range(11, 18):
+            self.visits(0, 4, room(0, id))
+            self.accepted("redo")
+            self.visits(id - 9, 4, room(0, id))
+        self.accepted(withdraw(17))
+        self.visits(0, 5, room(50, 17), tank(50, 17, PLAIN, 9, 0, [], []))
+        self.accepted(room(17, 12))
+        self.visits(4, 0, room(50, 17))
+        self.accepted("undo", "undo")
+        self.visits(8, 7, room(50, 17))
+        self.accepted(mark(14, EXEMPT))
+        self.visits(8, 7, room(50, 17))
+        self.visits(7, 8, room(50, 16, 0, EXEMPT))
+        self.visits(7, 0, room(50, 16))
+
+    def test_a_sheet_that_was_read(self) -> None:
+        """In either form; a U that came from a file has no m."""
+        for form in dayfile.FORMS:
+            self.on_two_chains()
+            self.accepted(scripts.read(dayfile.bytes_of(form, self.session.sheet, 0)))
+            for level, (plain, exempt) in enumerate(zip(self.IN_UNDER_DECK, self.IN_EXEMPT), start=1):
+                self.visits(level, 7 if level == 8 else 0, room(50, plain))
+                self.visits(level, 7 if level == 8 else 8, room(50, exempt, 0, DEDUCTED))
+                self.visits(level, 4, room(0, plain), tank(0, plain, PLAIN, 9, 0, [], []))
+                self.visits(level, 29 if level == 1 else 6, tank(50, plain, PLAIN, 9, 0, [], []))
+            self.visits(0, 5, room(50, 77), tank(50, 77, PLAIN, 9, 0, [], []))
+
+
 class Recorded(OfCalls):
     """Recorded spaces, judged as entries with their recorded tonnage and length."""
 
@@ -1552,7 +1789,7 @@ class Protocol(OfCalls):
             "enter 4 2 5 3 800 800 500", "withdraw 2", "spaces", "counts", "report 0", "write 0 0 4",
         )
         answers = [
-            "0", "0 2 -", "0 0 -", "0 0 -", "11",
+            "0", "0 2 - 0", "0 0 - 0", "0 0 - 1", "11",
             "0 1 4800 3 0 2:0:3:0:1280:1600:0:0 5:0:4:0:100:500:0:0 4:2:5:3:320:800:0:0", "0 3 0", "13 0 0",
             "13 0 00000000",
         ]
@@ -1611,9 +1848,9 @@ class Protocol(OfCalls):
                 before = self.session.sheet
                 self.asks(line, remark)
                 self.assertEqual(self.session.sheet, before)
-        self.asks(f"enter 1 0 4 0 10 {longest} 5", "3 0 -")
-        self.asks(f"enter 1 0 4 0 10 5 {longest}", "3 0 -")
-        self.asks("enter 1 0 4 0 10 - -", "3 0 -")
+        self.asks(f"enter 1 0 4 0 10 {longest} 5", "3 0 - 0")
+        self.asks(f"enter 1 0 4 0 10 5 {longest}", "3 0 - 0")
+        self.asks("enter 1 0 4 0 10 - -", "3 0 - 0")
 
     def test_script_too_long(self) -> None:
         self.assertEqual(survey.answers("counts\n" + "#" * (2**20 - 7)), "0 0 0\n")
@@ -1672,6 +1909,7 @@ class Invariants(unittest.TestCase):
     @classmethod
     def setUpClass(cls) -> None:
         cls.walks = [steps(scripts.script(seed, 300)) for seed in range(8)]
+        cls.walks += [walked(scripts.deep_walk, seed) for seed in range(8)]
         cls.walks.append(standard_steps())
         cls.steps = [step for walk in cls.walks for step in walk]
         of_sheets = ((step.after.length, step.after.spaces, step.after.vessel) for step in cls.steps)
@@ -1871,9 +2109,26 @@ class Invariants(unittest.TestCase):
                 self.assertEqual(step.answer.split(" ")[2] == "-", not of_depths)
 
     def test_tanks_pass_on_nothing(self) -> None:
+        """They answer their number and what they visited, and no rounding."""
         for step in self.steps:
             if step.call == "tank" and step.number is not None:
-                self.assertEqual(step.answer, str(step.number))
+                self.assertEqual(step.answer, f"{step.number} {step.visited}")
+
+    def test_visited(self) -> None:
+        """'At most 8, is 8 only where 7 or a lower number refuses the entry', 0 where no standing space is named."""
+        for step in self.steps:
+            if step.call in ENTRIES and step.number is not None:
+                by_id = {space.id: space for space in step.before.spaces}
+                named = by_id.get(step.arguments[1]) if step.new.kind == R else None
+                self.assertEqual(step.visited, 0 if named is None else s.level(step.before.spaces, named))
+                self.assertLessEqual(step.visited, 8)
+                self.assertTrue(step.visited < 8 or 1 <= step.number <= 7)
+                steps_up = 0
+                while named is not None:
+                    steps_up, named = steps_up + 1, by_id.get(named.within)
+                self.assertEqual(step.visited, steps_up)
+                if step.number == 0:
+                    self.assertEqual(step.visited + 1, s.level(step.after.spaces, step.after.spaces[-1]))
 
     def test_new_spaces_come_last(self) -> None:
         for step in self.steps:
@@ -2490,7 +2745,7 @@ class StandardScript(unittest.TestCase):
             if entered.call == "enter" and entered.number == 0 and entered.rounding:
                 found.add((entered.new.kind, f"{after.call} {after.answer}", f"{behind.call} {behind.answer}"))
                 if after.call == "tank" and all(entered.roundings_of_depths):
-                    found.add(f"tank {after.answer}")
+                    found.add(f"tank {after.number}")
         self.assertLessEqual({(kind, "undo 0", "redo 0") for kind in (U, B, S)}, found)
         self.assertIn("tank 0", found)
 
@@ -2539,6 +2794,56 @@ class StandardScript(unittest.TestCase):
                   and step.answer == "? number too large"}
         self.assertLessEqual({str(2**32), str(2**32 + 1), str(2**64 - 1), str(2**64)}, beyond)
 
+    def test_visited_in_the_script(self) -> None:
+        """By rooms and by tanks, all that can be visited with each number, which is all that there is."""
+        levels = range(1, 9)
+        found = {
+            call: {(step.number, step.visited) for step in self.of(call) if step.new.kind == R} for call in ENTRIES
+        }
+        self.assertEqual(found["enter"], {
+            (1, 0), (5, 0), (6, 1), (7, 8), *product((2, 3, 4), (0, *levels)), *product((0, 8, 9, 10), levels[:7])
+        })
+        self.assertEqual(found["tank"], {
+            (1, 0), (5, 0), *product((0, 3, 9, 10, 29), (1,)), *product((2, 4), (0, *levels)), *product((6,), levels)
+        })
+        self.assertEqual({step.visited for step in self.entries if step.new.kind != R}, {0})
+
+    def test_visited_beside_other_numbers_in_the_script(self) -> None:
+        """Rooms in a space of each level to which two numbers apply, in a hatchway and where none stands."""
+        found = {
+            (*pair, step.visited) for step in self.entries if step.new.kind == R and step.before.is_open
+            for pair in combinations(sorted(step.numbers), 2)
+        }
+        pairs = {(2, 3), (2, 4), (3, 4), (3, 8), (4, 8), (4, 9), (8, 9), (2, 10), (3, 10), (4, 10), (8, 10), (9, 10)}
+        self.assertLessEqual({(*pair, level) for pair in pairs for level in range(1, 8)}, found)
+        self.assertLessEqual({(2, 7, 8), (3, 7, 8), (4, 7, 8), (7, 8, 8), (7, 9, 8), (7, 10, 8)}, found)
+        self.assertLessEqual({(2, 6, 1), (3, 6, 1), (4, 6, 1), (6, 9, 1), (6, 10, 1)}, found)
+        self.assertLessEqual({(2, 5, 0), (3, 5, 0), (4, 5, 0), (5, 10, 0)}, found)
+
+    def test_visited_after_changes_in_the_script(self) -> None:
+        """By how the named space last came to stand where it does, and by the change behind which none stands."""
+        how: dict[int, str] = {}
+        found, last = set(), ""
+        for step in self.steps:
+            if step.call in ENTRIES and step.number is not None and step.new.kind == R:
+                found.add((how[step.arguments[1]] if step.visited else last, step.visited))
+            if step.number == 0 and step.call in (*BEGINNINGS, *CHANGES, "undo", "redo"):
+                before = {space.id for space in step.before.spaces} if step.call not in BEGINNINGS else set()
+                how |= {space.id: step.call for space in step.after.spaces if space.id not in before}
+                last = step.call
+        self.assertLessEqual(set(product(("enter", "read", "undo", "redo"), range(1, 9))), found)
+        self.assertLessEqual({("tank", 2), *product(("undo", "redo", "withdraw", "mark", "read", "open"), (0,))}, found)
+
+    def test_random_visited(self) -> None:
+        """Calls at random visit from 0 to 8 spaces, accepted and refused; tanks that name rooms do so too."""
+        found = [(step.call, step.number, step.visited) for step in steps_at_random()
+                 if step.call in ENTRIES and step.number is not None]
+        self.assertLessEqual(set(product(("enter",), (2, 4), range(9))), set(found))
+        self.assertLessEqual(set(product(("enter",), (0, 8, 9), range(1, 8))), set(found))
+        self.assertLessEqual(set(product(("tank",), (6,), range(1, 9))), set(found))
+        for visited in (7, 8):
+            self.assertGreater(sum(visited == last for *_, last in found), 40)
+
     def test_lines_that_are_no_calls(self) -> None:
         """Whatever the sheet."""
         session = Session()
@@ -2550,14 +2855,13 @@ class StandardScript(unittest.TestCase):
     def test_random_machinery(self) -> None:
         """Calls at random have machinery of each class, in tanks too, a standing over 4, and 21 by report and write."""
         found = set()
-        for seed in range(12):
-            for step in steps(scripts.script(seed, 400)):
-                if step.call in ("report", *WRITES) and step.number in (0, 21):
-                    own, gross, _ = self.share_of_machinery(step)
-                    found.add((step.call, step.number, m.class_of_machinery(own, gross) if own else "none"))
-                elif step.call in (*ENTRIES, "mark") and step.number in (0, 2, 8):
-                    standing = step.arguments[1] if step.call == "mark" else step.new.standing
-                    found.add((step.call, step.number, standing))
+        for step in steps_at_random():
+            if step.call in ("report", *WRITES) and step.number in (0, 21):
+                own, gross, _ = self.share_of_machinery(step)
+                found.add((step.call, step.number, m.class_of_machinery(own, gross) if own else "none"))
+            elif step.call in (*ENTRIES, "mark") and step.number in (0, 2, 8):
+                standing = step.arguments[1] if step.call == "mark" else step.new.standing
+                found.add((step.call, step.number, standing))
         for call in ("report", "writef"):
             of_classes = {(call, 0, of_class) for of_class in (m.SMALL, m.MIDDLE, m.LARGE)}
             self.assertLessEqual(of_classes | {(call, 21, m.LARGE)}, found)
@@ -2568,12 +2872,11 @@ class StandardScript(unittest.TestCase):
     def test_random_roundings(self) -> None:
         """Calls at random have U, B and S in every number of parts, rounded up, down and not, and all of depths."""
         found, depths = set(), set()
-        for seed in range(12):
-            for step in steps(scripts.script(seed, 1000)):
-                if step.call == "enter" and step.number == 0 and step.new.kind in (U, B, S):
-                    sign = (step.rounding > 0) - (step.rounding < 0)
-                    found |= {(step.new.kind, len(step.arguments[5]) - 1), (step.new.kind, f"sign {sign}")}
-                    depths |= {(step.new.m, rounding) for rounding in step.roundings_of_depths}
+        for step in steps_at_random():
+            if step.call == "enter" and step.number == 0 and step.new.kind in (U, B, S):
+                sign = (step.rounding > 0) - (step.rounding < 0)
+                found |= {(step.new.kind, len(step.arguments[5]) - 1), (step.new.kind, f"sign {sign}")}
+                depths |= {(step.new.m, rounding) for rounding in step.roundings_of_depths}
         parts = {(U, number) for number in range(2, 17, 2)} | {(B, number) for number in range(6, 17, 2)}
         parts |= {(S, number) for number in range(2, 17, 2)}
         self.assertEqual(found, parts | set(product((U, B, S), ("sign -1", "sign 0", "sign 1"))))

@@ -95,12 +95,25 @@ pub struct Roundings {
     pub depths: [i8; 17],
 }
 
-/// The number, what the rounding did, and the sheet after the call: where refused, as it came.
+/// The number, what the rounding did, how many enclosing spaces were visited, and the sheet after the call: where refused, as it came.
+/// `visited` is a room's, refused or not: one for the named space and one for each step above it to level 1. It is at most 8, and 8 only
+/// where 7 or a lower number refuses the entry; 0 where the enclosing id isn't standing, of any other kind, and on a sheet not open.
 #[repr(C)]
 #[must_use = "the sheet after the call is in it, and whether it was refused"]
 pub struct Entering {
     pub number: u8,
     pub roundings: Roundings,
+    pub visited: u8,
+    pub sheet: Sheet,
+}
+
+/// The same of a tank, which is a room, but for what the rounding did: `visited` is 1 where its enclosing id names a space at level 1, and so
+/// in a U.
+#[repr(C)]
+#[must_use = "the sheet after the call is in it, and whether it was refused"]
+pub struct TankEntering {
+    pub number: u8,
+    pub visited: u8,
     pub sheet: Sheet,
 }
 
@@ -183,6 +196,7 @@ const _: () = {
     assert!(size_of::<Changed>() == 5296);
     assert!(size_of::<Roundings>() == 18);
     assert!(size_of::<Entering>() == 5312);
+    assert!(size_of::<TankEntering>() == 5296);
     assert!(size_of::<Counted>() == 5304);
     assert!(size_of::<Reported>() == 5312);
     assert!(size_of::<LaidOut>() == 24);
@@ -212,7 +226,7 @@ mod calls {
             depths_count: usize,
             breadths: *const u32,
             breadths_count: usize,
-        ) -> Changed;
+        ) -> TankEntering;
         pub safe fn fummidrake_withdraw(sheet: Sheet, id: u16) -> Changed;
         pub safe fn fummidrake_mark(sheet: Sheet, id: u16, standing: u8) -> Changed;
         pub safe fn fummidrake_undo(sheet: Sheet) -> Changed;
@@ -267,7 +281,7 @@ impl Sheet {
     /// Enters a space from its offsets: for a U the depths at the stations, and the breadths station by station from the bow, at each
     /// from above; for a B or S one height and one breadth a station; for an H or R one of each. A pointed end of a U has no area: its
     /// depth or all its breadths are 0, or its third interval of depth rounds to 0. The answer says too what the rounding of its third
-    /// intervals did. Refused with 1 to 10, 19.
+    /// intervals did and, refused or not, how many enclosing spaces were visited. Refused with 1 to 10, 19.
     pub fn enter(self, entry: Entry, heights: &[u32], breadths: &[u32]) -> Entering {
         // SAFETY: each pointer and its count are one slice's.
         unsafe {
@@ -277,9 +291,10 @@ impl Sheet {
 
     /// Enters a tank that follows the hull, a room directly inside its U, from its sections, as `lay_out` counts them: a depth a section, and
     /// the breadths section by section from the bow, at each m + 1 from above, with that U's m. Where a tank station falls exactly between two
-    /// zones there are two sections, the fore zone's first, and the larger area is taken. Refused with 1 to 6, 9, 10, 29: 3, and 9 by the
-    /// tank's tonnage, only in a U with m whose ends the tank doesn't pass.
-    pub fn enter_tank(self, tank: Tank, depths: &[u32], breadths: &[u32]) -> Changed {
+    /// zones there are two sections, the fore zone's first, and the larger area is taken. The answer says too, refused or not, how many
+    /// enclosing spaces were visited. Refused with 1 to 6, 9, 10, 29: 3, and 9 by the tank's tonnage, only in a U with m whose ends the tank
+    /// doesn't pass.
+    pub fn enter_tank(self, tank: Tank, depths: &[u32], breadths: &[u32]) -> TankEntering {
         // SAFETY: each pointer and its count are one slice's.
         unsafe {
             calls::fummidrake_enter_tank(self, tank, depths.as_ptr(), depths.len(), breadths.as_ptr(), breadths.len())

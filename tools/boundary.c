@@ -1,6 +1,7 @@
 /* What nothing proves across the boundary to C, tried: that the header's fields are the source's, that the calls stay inside a
- * pointer and its length, that any bytes are a sheet, that what the rounding did arrives with its sign, that decks, vessel number and
- * form arrive in every struct, and that a call in place does what the same call by value does. Prints nothing, or the first fault.
+ * pointer and its length, that any bytes are a sheet, that what the rounding did arrives with its sign, and how many enclosing spaces
+ * were visited with every number, that decks, vessel number and form arrive in every struct, and that a call in place does what the
+ * same call by value does. Prints nothing, or the first fault.
  *
  * Run at the root of the project, after `rt staticlib fummidrake`: see `make test`. */
 #define _DEFAULT_SOURCE
@@ -177,13 +178,14 @@ static void lists(void) {
         HOLDS(answer.number <= 10 || answer.number == 19);
         HOLDS(entry.deck <= LAST_DECK || answer.number == 2);
         HOLDS(answer.number != 0 || fummidrake_space_at(answer.sheet, 0).deck == entry.deck);
-        HOLDS(answer.sheet.vessel == VESSEL);
+        HOLDS(answer.sheet.vessel == VESSEL && answer.visited == 0);
         HOLDS(answer.number == 0 || same_roundings(answer.roundings, no_roundings));
     }
 }
 
-/* The same of a tank's sections, mostly as many as are asked. */
+/* The same of a tank's sections, mostly as many as are asked. The U and the hatchway are at level 1, the room 2 at level 2. */
 static void sections(void) {
+    static const uint8_t levels[] = {0, 1, 2, 1, 0};
     room depths = new_room(), breadths = new_room();
     fummidrake_sheet sheet = three_spaces();
     for (int turn = 0; turn < 4000; turn++) {
@@ -198,8 +200,8 @@ static void sections(void) {
             ds[i] = (uint32_t)any(any(200) ? 1201 : UINT64_C(1) << 32);
         for (size_t i = 0; i < b; i++)
             bs[i] = (uint32_t)any(any(200) ? 2001 : UINT64_C(1) << 32);
-        fummidrake_changed answer = fummidrake_enter_tank(sheet, tank, ds, d, bs, b);
-        HOLDS(answer.number != 1 && answer.number <= 10);
+        fummidrake_tank_entering answer = fummidrake_enter_tank(sheet, tank, ds, d, bs, b);
+        HOLDS(answer.number != 1 && answer.number <= 10 && answer.visited == levels[tank.within]);
         HOLDS(tank.deck <= LAST_DECK || answer.number == 2);
         HOLDS(answer.number != 0 || fummidrake_space_at(answer.sheet, 3).deck == tank.deck);
     }
@@ -233,7 +235,7 @@ static void whole_under_deck(void) {
     fummidrake_sheet sheet = fummidrake_open(4800, 0).sheet;
     sheet = entered(sheet, under_deck(UPRIGHT, UPRIGHT), given.depths, 7, given.breadths, 35);
     fummidrake_tank tank = {2, 1, 3, LAST_DECK, 4800, 0};
-    fummidrake_changed answer = fummidrake_enter_tank(sheet, tank, given.depths, 7, given.breadths, 35);
+    fummidrake_tank_entering answer = fummidrake_enter_tank(sheet, tank, given.depths, 7, given.breadths, 35);
     fummidrake_space expected = sheet.spaces[0];
     expected.id = 2, expected.within = 1, expected.kind = 5, expected.standing = 3, expected.m = 0, expected.deck = LAST_DECK;
     HOLDS(answer.number == 0 && same_space(fummidrake_space_at(answer.sheet, 1), expected));
@@ -454,9 +456,14 @@ static void same_in_place(uint8_t number, fummidrake_sheet left, fummidrake_chan
     HOLDS(number == answer.number && same_sheet(&left, &answer.sheet));
 }
 
-/* The same of an entry, which answers what the rounding did too. */
+/* The same of an entry, which answers what the rounding did and how many spaces were visited too. */
 static void entered_in_place(fummidrake_entering_on values, fummidrake_sheet left, fummidrake_entering answer) {
-    HOLDS(values.number == answer.number && same_roundings(values.roundings, answer.roundings) && same_sheet(&left, &answer.sheet));
+    HOLDS(values.number == answer.number && same_roundings(values.roundings, answer.roundings));
+    HOLDS(values.visited == answer.visited && same_sheet(&left, &answer.sheet));
+}
+
+static void tank_in_place(fummidrake_tank_entering_on values, fummidrake_sheet left, fummidrake_tank_entering answer) {
+    HOLDS(values.number == answer.number && values.visited == answer.visited && same_sheet(&left, &answer.sheet));
 }
 
 static void changes_in_place(fummidrake_sheet sheet, fummidrake_entry entry, uint8_t standing) {
@@ -468,10 +475,10 @@ static void changes_in_place(fummidrake_sheet sheet, fummidrake_entry entry, uin
     entered_in_place(values, left, fummidrake_enter(sheet, entry, &ten, 1, &ten, 1));
     left = sheet;
     fummidrake_tank tank = {entry.id, entry.within, standing, entry.deck, 800, 0};
-    uint8_t number = fummidrake_enter_tank_on(&left, tank, tens, 3, tens, 15);
-    same_in_place(number, left, fummidrake_enter_tank(sheet, tank, tens, 3, tens, 15));
+    fummidrake_tank_entering_on of_tank = fummidrake_enter_tank_on(&left, tank, tens, 3, tens, 15);
+    tank_in_place(of_tank, left, fummidrake_enter_tank(sheet, tank, tens, 3, tens, 15));
     left = sheet;
-    number = fummidrake_withdraw_on(&left, entry.id);
+    uint8_t number = fummidrake_withdraw_on(&left, entry.id);
     same_in_place(number, left, fummidrake_withdraw(sheet, entry.id));
     left = sheet;
     number = fummidrake_mark_on(&left, entry.id, standing);
@@ -630,16 +637,153 @@ static void other_ends(void) {
     }
 }
 
+/* The U, 1, and a chain of rooms in it, each directly inside the one before, so that each one's id is its level; and a hatchway, 9. */
+static fummidrake_sheet eight_levels(void) {
+    offsets given = box();
+    uint32_t ten = 1000;
+    fummidrake_sheet sheet = fummidrake_open(4800, 0).sheet;
+    sheet = entered(sheet, under_deck(UPRIGHT, UPRIGHT), given.depths, 7, given.breadths, 35);
+    for (uint16_t level = 2; level <= 8; level++) {
+        fummidrake_entry next = {level, (uint16_t)(level - 1), 5, 0, 0, 0, 0, 1000u - 100u * level};
+        sheet = entered(sheet, next, &ten, 1, &ten, 1);
+    }
+    return entered(sheet, (fummidrake_entry){9, 0, 4, 0, 0, 0, 0, 500}, &ten, 1, &ten, 1);
+}
+
+/* An entry of so many heights and breadths, 10 ft each, answers this number and so many visited, by value and in place. */
+static void visits(fummidrake_sheet sheet, fummidrake_entry entry, size_t heights, size_t breadths, uint8_t number,
+                   uint8_t visited) {
+    uint32_t tens[35];
+    for (size_t i = 0; i < 35; i++)
+        tens[i] = 1000;
+    fummidrake_sheet left = sheet;
+    fummidrake_entering answer = fummidrake_enter(sheet, entry, tens, heights, tens, breadths);
+    HOLDS(answer.number == number && answer.visited == visited);
+    entered_in_place(fummidrake_enter_on(&left, entry, tens, heights, tens, breadths), left, answer);
+}
+
+/* The same of a tank of so many depths and breadths, a foot each. */
+static void tank_visits(fummidrake_sheet sheet, fummidrake_tank tank, size_t depths, size_t breadths, uint8_t number,
+                        uint8_t visited) {
+    uint32_t feet[15];
+    for (size_t i = 0; i < 15; i++)
+        feet[i] = 100;
+    fummidrake_sheet left = sheet;
+    fummidrake_tank_entering answer = fummidrake_enter_tank(sheet, tank, feet, depths, feet, breadths);
+    HOLDS(answer.number == number && answer.visited == visited);
+    tank_in_place(fummidrake_enter_tank_on(&left, tank, feet, depths, feet, breadths), left, answer);
+}
+
+/* A room's entry visits as many spaces as the level of the enclosing one: accepted, and with each number. In a room at level 8 it is
+ * refused, with 7 where no lower number applies. On a sheet not open none is visited. */
+static void visited_at_each_level(void) {
+    uint32_t ten = 1000;
+    fummidrake_sheet sheet = eight_levels(), exempt = sheet, full = sheet, closed = fummidrake_open(0, 0).sheet;
+    HOLDS(fummidrake_mark_on(&exempt, 2, 1) == 0);
+    for (uint16_t id = 10; id <= 200; id++)
+        full = entered(full, (fummidrake_entry){id, 0, 4, 0, 0, 0, 0, 500}, &ten, 1, &ten, 1);
+    for (uint8_t level = 1; level <= 8; level++) {
+        fummidrake_entry entry = {500, level, 5, 0, 0, 0, 0, 1}, misstated = entry, taken = entry, ballast = entry, large = entry;
+        misstated.standing = 5, taken.id = level, ballast.standing = 2, large.length = 150000;
+        bool too_deep = level == 8;
+        visits(sheet, entry, 1, 1, too_deep ? 7 : 0, level);
+        visits(closed, entry, 1, 1, 1, 0);
+        visits(sheet, misstated, 1, 1, 2, level);
+        visits(sheet, entry, 0, 1, 3, level);
+        visits(sheet, taken, 1, 1, 4, level);
+        visits(exempt, ballast, 1, 1, too_deep ? 7 : level == 1 ? 0 : 8, level);
+        visits(sheet, large, 1, 1, too_deep ? 7 : 9, level);
+        visits(full, entry, 1, 1, too_deep ? 7 : 10, level);
+        visits(full, misstated, 0, 0, 2, level);
+    }
+}
+
+/* One in a hatchway, which is at level 1; none where the enclosing id isn't standing, and none by an entry of another kind. */
+static void visited_elsewhere(void) {
+    static const uint16_t no_ids[] = {0, 10, 9999, 10000, 65535};
+    fummidrake_sheet sheet = eight_levels();
+    visits(sheet, (fummidrake_entry){500, 9, 5, 0, 0, 0, 0, 1}, 1, 1, 6, 1);
+    visits(sheet, (fummidrake_entry){500, 9, 5, 5, 0, 0, 0, 1}, 1, 1, 2, 1);
+    for (size_t i = 0; i < sizeof no_ids / sizeof no_ids[0]; i++) {
+        visits(sheet, (fummidrake_entry){500, no_ids[i], 5, 0, 0, 0, 0, 1}, 1, 1, 5, 0);
+        visits(sheet, (fummidrake_entry){1, no_ids[i], 5, 0, 0, 0, 0, 1}, 1, 1, 4, 0);
+        visits(sheet, (fummidrake_entry){500, no_ids[i], 5, 0, 0, 0, 100, 1}, 1, 1, 2, 0);
+    }
+    HOLDS(fummidrake_withdraw_on(&sheet, 8) == 0);
+    visits(sheet, (fummidrake_entry){500, 8, 5, 0, 0, 0, 0, 1}, 1, 1, 5, 0);
+    visits(sheet, (fummidrake_entry){500, 7, 1, 0, UPRIGHT, UPRIGHT, 0, 4800}, 7, 35, 9, 0);
+    visits(sheet, (fummidrake_entry){500, 7, 2, 0, 0, 0, 0, 4800}, 7, 7, 0, 0);
+    visits(sheet, (fummidrake_entry){500, 7, 3, 0, 0, 0, 0, 1600}, 3, 3, 0, 0);
+    visits(sheet, (fummidrake_entry){500, 7, 4, 0, 0, 0, 0, 500}, 1, 1, 0, 0);
+    visits(sheet, (fummidrake_entry){500, 7, 4, 1, 0, 0, 0, 500}, 1, 1, 6, 0);
+    visits(sheet, (fummidrake_entry){500, 7, 0, 0, 0, 0, 0, 500}, 1, 1, 2, 0);
+    visits(sheet, (fummidrake_entry){500, 7, 6, 0, 0, 0, 0, 500}, 1, 1, 2, 0);
+}
+
+/* By a tank one in a U, whatever its number is, and in a hatchway; where it names a room, as many as that one's level. */
+static void visited_by_tanks(void) {
+    uint8_t file[16 * 8 + 28];
+    fummidrake_sheet sheet = eight_levels(), closed = fummidrake_open(0, 0).sheet;
+    fummidrake_tank tank = {500, 1, 0, 0, 1600, 0}, misstated = tank, taken = tank, too_long = tank;
+    misstated.standing = 5, taken.id = 1, too_long.length = 4801;
+    tank_visits(sheet, tank, 3, 15, 0, 1);
+    tank_visits(closed, tank, 3, 15, 1, 0);
+    tank_visits(sheet, misstated, 3, 15, 2, 1);
+    tank_visits(sheet, tank, 2, 15, 3, 1);
+    tank_visits(sheet, taken, 3, 15, 4, 1);
+    tank_visits(sheet, too_long, 3, 15, 9, 1);
+    for (uint8_t level = 2; level <= 8; level++) {
+        tank.within = misstated.within = taken.within = level;
+        tank_visits(sheet, tank, 3, 15, 6, level);
+        tank_visits(sheet, misstated, 3, 15, 2, level);
+        tank_visits(sheet, taken, 3, 15, 4, level);
+        tank_visits(closed, tank, 3, 15, 1, 0);
+    }
+    tank.within = 9;
+    tank_visits(sheet, tank, 3, 15, 6, 1);
+    tank.within = 10;
+    tank_visits(sheet, tank, 3, 15, 5, 0);
+    tank.within = 1;
+    HOLDS(fummidrake_withdraw_on(&sheet, 8) == 0 && fummidrake_write_on(&sheet, 0, 1, file, sizeof file, 0).number == 0);
+    tank_visits(fummidrake_read(file, sizeof file).sheet, tank, 3, 15, 29, 1);
+    visits(fummidrake_read(file, sizeof file).sheet, (fummidrake_entry){500, 7, 5, 0, 0, 0, 0, 1}, 1, 1, 0, 7);
+}
+
+/* Eight in a ring of rooms and in a chain of nine, as no call leaves them. */
+static void visited_at_most(void) {
+    fummidrake_sheet ring = eight_levels(), nine = ring;
+    ring.spaces[0].kind = nine.spaces[0].kind = 5;
+    ring.spaces[0].within = 3;
+    nine.spaces[0].within = 9;
+    for (int i = 0; i < 2; i++) {
+        fummidrake_sheet sheet = i ? nine : ring;
+        visits(sheet, (fummidrake_entry){500, 8, 5, 0, 0, 0, 0, 1}, 1, 1, 7, 8);
+        visits(sheet, (fummidrake_entry){500, 8, 5, 0, 0, 0, 0, 0}, 1, 1, 2, 8);
+        tank_visits(sheet, (fummidrake_tank){500, 8, 0, 0, 1600, 0}, 3, 15, 6, 8);
+    }
+    visits(ring, (fummidrake_entry){500, 1, 5, 0, 0, 0, 0, 1}, 1, 1, 7, 8);
+    visits(nine, (fummidrake_entry){500, 1, 5, 0, 0, 0, 0, 1}, 1, 1, 0, 2);
+}
+
+/* At most 8 were visited, 8 only where 7 or a lower number refused the entry, and none on a sheet not open. */
+static void visited_as_said(uint8_t number, uint8_t visited) {
+    HOLDS(visited <= 8 && (visited < 8 || (1 <= number && number <= 7)) && (number != 1 || visited == 0));
+}
+
 /* Every call on a sheet, whatever its bytes are: it ends, and one that isn't open is refused with 1. */
 static void every_call(fummidrake_sheet sheet) {
     uint32_t ten = 1000, tens[15] = {0};
     uint8_t buf[4096], unopened = fummidrake_is_open(sheet) ? 0 : 1, justified = (uint8_t)any(3), form = (uint8_t)any(4);
     uint16_t id = sheet.spaces[any(200)].id;
     fummidrake_tank tank = {any(2) ? id : 9999, sheet.spaces[any(2)].id, (uint8_t)any(5), any_deck(), 500, (uint32_t)any(2000)};
+    fummidrake_entering of_room = fummidrake_enter(sheet, (fummidrake_entry){id, 1, 5, 0, 0, 0, any_deck(), 500}, &ten, 1, &ten, 1);
+    fummidrake_tank_entering of_tank = fummidrake_enter_tank(sheet, tank, tens, 3, tens, 15);
+    visited_as_said(of_room.number, of_room.visited);
+    visited_as_said(of_tank.number, of_tank.visited);
     uint8_t numbers[] = {
-        fummidrake_enter(sheet, (fummidrake_entry){id, 1, 5, 0, 0, 0, any_deck(), 500}, &ten, 1, &ten, 1).number,
+        of_room.number,
+        of_tank.number,
         fummidrake_enter(sheet, (fummidrake_entry){id, 0, 1, 0, POINTED, POINTED, 0, 500}, tens, 3, tens, 15).number,
-        fummidrake_enter_tank(sheet, tank, tens, 3, tens, 15).number,
         fummidrake_withdraw(sheet, id).number,
         fummidrake_mark(sheet, id, (uint8_t)any(5)).number,
         fummidrake_undo(sheet).number,
@@ -692,6 +836,10 @@ int main(void) {
     pointed_ends();
     judged_last();
     other_ends();
+    visited_at_each_level();
+    visited_elsewhere();
+    visited_by_tanks();
+    visited_at_most();
     buffers();
     moves();
     refused_moves();

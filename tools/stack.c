@@ -29,8 +29,9 @@ typedef struct {
     uint16_t id;
 } input;
 
-/* An input's entry and offsets, as a call takes them after the sheet. */
+/* An input's entry and offsets, and the tank and its sections, as a call takes them after the sheet. */
 #define ENTRY(of) (of).entry, (of).heights, (of).heights_count, (of).breadths, (of).breadths_count
+#define TANK tank, section_depths, SECTIONS, section_breadths, SECTION_BREADTHS
 
 static input given;
 static uint32_t section_depths[SECTIONS], section_breadths[SECTION_BREADTHS];
@@ -41,6 +42,7 @@ static uint8_t days[2][DAY], buffer[DAY];
 static uint8_t number;
 static fummidrake_changed changed;
 static fummidrake_entering entered;
+static fummidrake_tank_entering tank_entered;
 static fummidrake_counted counted;
 static fummidrake_reported reported;
 static fummidrake_laid_out laid_out;
@@ -66,7 +68,6 @@ static size_t last(void) {
         number = fummidrake_##name##_on(&given.sheet __VA_ARGS__);                                                             \
     }
 
-CHANGES(enter_tank, , tank, section_depths, SECTIONS, section_breadths, SECTION_BREADTHS)
 CHANGES(withdraw, , given.id)
 CHANGES(mark, , given.id, 1)
 CHANGES(undo, )
@@ -79,6 +80,15 @@ static void enter(void) {
 
 static void enter_on(void) {
     number = fummidrake_enter_on(&given.sheet, ENTRY(given)).number;
+}
+
+static void enter_tank(void) {
+    tank_entered = fummidrake_enter_tank(given.sheet, TANK);
+    number = tank_entered.number;
+}
+
+static void enter_tank_on(void) {
+    number = fummidrake_enter_tank_on(&given.sheet, TANK).number;
 }
 
 static void open(void) {

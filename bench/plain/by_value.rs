@@ -1,6 +1,6 @@
 //! The same calls as the proved ones: a sheet goes in by value, and comes back with the answer. None is inlined, as none of theirs
 //! can be.
-use super::{Counts, Entry, Read, Refusal, Report, Roundings, Sheet, Tank, Unread};
+use super::{Counts, Entry, Read, Refusal, Report, Roundings, Sheet, Tank, Unread, Visiting};
 
 /// What a call answers, and the sheet after it.
 pub struct After<A> {
@@ -9,6 +9,7 @@ pub struct After<A> {
 }
 
 type Changed = After<Result<(), Refusal>>;
+type Entering<A> = After<Visiting<Result<A, Refusal>>>;
 
 #[inline(never)]
 pub fn open(length: u32, vessel: u32) -> Changed {
@@ -17,12 +18,12 @@ pub fn open(length: u32, vessel: u32) -> Changed {
 }
 
 #[inline(never)]
-pub fn enter(mut sheet: Sheet, entry: Entry, heights: &[u32], breadths: &[u32]) -> After<Result<Roundings, Refusal>> {
+pub fn enter(mut sheet: Sheet, entry: Entry, heights: &[u32], breadths: &[u32]) -> Entering<Roundings> {
     After { answer: sheet.enter(entry, heights, breadths), sheet }
 }
 
 #[inline(never)]
-pub fn enter_tank(mut sheet: Sheet, tank: Tank, depths: &[u32], breadths: &[u32]) -> Changed {
+pub fn enter_tank(mut sheet: Sheet, tank: Tank, depths: &[u32], breadths: &[u32]) -> Entering<()> {
     After { answer: sheet.enter_tank(tank, depths, breadths), sheet }
 }
 

@@ -210,7 +210,8 @@ impl Last<'_> {
         for (place, record) in self.records.chunks_exact(self.form.record_size()).enumerate() {
             let wrong = Unread { refusal: Refusal::WrongRecord, position: place + 1 };
             let space = space_of(record).ok_or(wrong)?;
-            let level = level_of_entry(&table, self.foot.length, &space).map_err(|_| wrong)?;
+            let enclosing = table.find(space.within);
+            let level = level_of_entry(&table, self.foot.length, &space, enclosing).map_err(|_| wrong)?;
             table.enter(space.at_level(level));
         }
         Ok(())

@@ -70,7 +70,7 @@ impl Space {
     }
 
     /// A U, B, S or H is at level 1.
-    fn level(&self) -> u8 {
+    pub fn level(&self) -> u8 {
         match self.kind {
             Kind::Room => self.level_or_m,
             _ => 1,
@@ -152,11 +152,16 @@ fn above<'a>(spaces: &'a [Space], space: &Space) -> impl Iterator<Item = &'a Spa
     successors(enclosing(space), move |&upper| enclosing(upper))
 }
 
-/// The level at which a new space stands, or the refusal of its entry, 4 to 10.
-pub fn level_of_entry(row: &(impl Row + ?Sized), tonnage_length: u32, new: &Space) -> Result<u8, Refusal> {
+/// The level at which a new space stands, or the refusal of its entry, 4 to 10. `enclosing` is the space that a room names, if that stands.
+pub fn level_of_entry(
+    row: &(impl Row + ?Sized),
+    tonnage_length: u32,
+    new: &Space,
+    enclosing: Option<&Space>,
+) -> Result<u8, Refusal> {
     judge_id(row, new.id)?;
     let level = match new.kind {
-        Kind::Room => level_of_room(row, new)?,
+        Kind::Room => level_of_room(row, new, enclosing.ok_or(Refusal::NotStanding)?)?,
         _ => level_of_unenclosed(row, tonnage_length, new)?,
     };
     if row.count() == PLACES {
@@ -173,11 +178,16 @@ fn judge_id(row: &(impl Row + ?Sized), id: u16) -> Result<(), Refusal> {
     Ok(())
 }
 
-/// The refusal of a tank's entry, 4 to 10 and 29. Its U is at level 1 and plain, so that 7 and 8 don't come from it; its tonnage is judged
-/// where it has one, in a U with m.
-pub fn judge_tank(row: &(impl Row + ?Sized), tank: &Space, fore: u32) -> Result<(), Refusal> {
+/// The refusal of a tank's entry, 4 to 10 and 29, by the space that it names, if that stands. Its U is at level 1 and plain, so that 7 and 8
+/// don't come from it; its tonnage is judged where it has one, in a U with m.
+pub fn judge_tank(
+    row: &(impl Row + ?Sized),
+    tank: &Space,
+    fore: u32,
+    enclosing: Option<&Space>,
+) -> Result<(), Refusal> {
     judge_id(row, tank.id)?;
-    let under_deck = row.find(tank.within).ok_or(Refusal::NotStanding)?;
+    let under_deck = enclosing.ok_or(Refusal::NotStanding)?;
     if under_deck.kind != Kind::UnderDeck {
         return Err(Refusal::CannotTake);
     }
@@ -195,9 +205,8 @@ pub fn judge_tank(row: &(impl Row + ?Sized), tank: &Space, fore: u32) -> Result<
     Ok(())
 }
 
-/// 5 to 9 of a room, which takes every standing.
-fn level_of_room(row: &(impl Row + ?Sized), room: &Space) -> Result<u8, Refusal> {
-    let enclosing = row.find(room.within).ok_or(Refusal::NotStanding)?;
+/// 6 to 9 of a room, which takes every standing.
+fn level_of_room(row: &(impl Row + ?Sized), room: &Space, enclosing: &Space) -> Result<u8, Refusal> {
     if enclosing.kind == Kind::Hatchway {
         return Err(Refusal::CannotTake);
     }

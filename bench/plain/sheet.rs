@@ -34,11 +34,25 @@ pub struct Sheet {
     history: History,
 }
 
+/// What an entry is answered with, refused or not, and how many enclosing spaces were visited for it: none but for a room (T-07 of document
+/// 02).
+pub struct Visiting<A> {
+    pub answer: A,
+    pub visited: u8,
+}
+
 /// How many changes are undoable and redoable.
 #[derive(Clone, Copy)]
 pub struct Counts {
     pub undoable: u8,
     pub redoable: u8,
+}
+
+impl<A> Visiting<A> {
+    /// The named space, if it stands, and those above it to level 1: as many as its own level, which it keeps.
+    fn up_from(named: Option<Space>, answer: A) -> Visiting<A> {
+        Visiting { answer, visited: named.map_or(0, |space| space.level()) }
+    }
 }
 
 impl Sheet {
@@ -67,7 +81,21 @@ impl Sheet {
     }
 
     /// Enters a space from its offsets, and says what the rounding of its third intervals did; 1 to 10, 19.
-    pub fn enter(&mut self, entry: Entry, heights: &[u32], breadths: &[u32]) -> Result<Roundings, Refusal> {
+    pub fn enter(&mut self, entry: Entry, heights: &[u32], breadths: &[u32]) -> Visiting<Result<Roundings, Refusal>> {
+        let enclosing = match Kind::of_code(entry.kind) {
+            Some(Kind::Room) => self.space_with(entry.within),
+            _ => None,
+        };
+        Visiting::up_from(enclosing, self.entered(entry, enclosing.as_ref(), heights, breadths))
+    }
+
+    fn entered(
+        &mut self,
+        entry: Entry,
+        enclosing: Option<&Space>,
+        heights: &[u32],
+        breadths: &[u32],
+    ) -> Result<Roundings, Refusal> {
         self.opened()?;
         let standing = Standing::of_code(entry.standing).ok_or(Refusal::OutsideItsRange)?;
         let kind = Kind::of_code(entry.kind).ok_or(Refusal::OutsideItsRange)?;
@@ -80,7 +108,7 @@ impl Sheet {
         let within = if kind == Kind::Room { entry.within } else { 0 };
         let Entry { id, deck, length, .. } = entry;
         let new = Space { id, within, kind, standing, level_or_m: m, deck, tonnage, length };
-        let space = new.at_level(level_of_entry(self.standing(), self.length, &new)?);
+        let space = new.at_level(level_of_entry(self.standing(), self.length, &new, enclosing)?);
         if ends.into_iter().zip(end_areas).any(|(end, area)| end == Some(End::Pointed) && area != 0) {
             return Err(Refusal::PointedWithArea);
         }
@@ -90,20 +118,31 @@ impl Sheet {
     }
 
     /// Enters a tank that follows the hull from its sections; 1 to 6, 9, 10, 29.
-    pub fn enter_tank(&mut self, tank: Tank, depths: &[u32], breadths: &[u32]) -> Result<(), Refusal> {
+    pub fn enter_tank(&mut self, tank: Tank, depths: &[u32], breadths: &[u32]) -> Visiting<Result<(), Refusal>> {
+        let enclosing = self.space_with(tank.within);
+        Visiting::up_from(enclosing, self.tank_entered(tank, enclosing.as_ref(), depths, breadths))
+    }
+
+    fn tank_entered(
+        &mut self,
+        tank: Tank,
+        enclosing: Option<&Space>,
+        depths: &[u32],
+        breadths: &[u32],
+    ) -> Result<(), Refusal> {
         self.opened()?;
         let standing = Standing::of_code(tank.standing).ok_or(Refusal::OutsideItsRange)?;
         if !is_deck(tank.deck.into()) || !tanks::in_range(tank.length, tank.fore, depths, breadths) {
             return Err(Refusal::OutsideItsRange);
         }
         let measuring = |space: &&Space| space.m() != 0 && !tanks::passes_end(space.length, tank.length, tank.fore);
-        let tonnage = match self.standing().find(tank.within).filter(measuring) {
+        let tonnage = match enclosing.filter(measuring) {
             Some(under_deck) => tanks::tonnage(self.length, under_deck, tank, depths, breadths)?,
             None => 0,
         };
         let Tank { id, within, deck, length, .. } = tank;
         let space = Space { id, within, kind: Kind::Room, standing, level_or_m: 2, deck, tonnage, length };
-        judge_tank(self.standing(), &space, tank.fore)?;
+        judge_tank(self.standing(), &space, tank.fore, enclosing)?;
         self.put_last(space);
         self.history.note(Change::Entered(space));
         Ok(())
@@ -180,6 +219,11 @@ impl Sheet {
     /// The spaces that stand, in order of entry.
     pub fn standing(&self) -> &[Space] {
         &self.spaces[..usize::from(self.count)]
+    }
+
+    /// None on a sheet not open.
+    fn space_with(&self, id: u16) -> Option<Space> {
+        self.standing().find(id).copied()
     }
 
     pub(super) fn opened(&self) -> Result<(), Refusal> {

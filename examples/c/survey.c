@@ -12,13 +12,14 @@ static void answered(const char *call, uint8_t number) {
     printf("%s %d\n", call, number);
 }
 
-/* Prints the answer to an entry: beside the number what the rounding of the length did, and of a U that of the depth at each station. */
+/* Prints the answer to an entry: beside the number what the rounding of the length did, of a U that of the depth at each station, and how
+ * many enclosing spaces were visited. */
 static void entered(fummidrake_entering_on answer, size_t stations_of_u) {
     size_t depths = answer.number == 0 ? stations_of_u : 0;
     printf("enter %d %d ", answer.number, answer.roundings.length);
     for (size_t i = 0; i < depths; i++)
         printf("%s%d", i ? "," : "", answer.roundings.depths[i]);
-    printf("%s\n", depths ? "" : "-");
+    printf("%s %d\n", depths ? "" : "-", answer.visited);
 }
 
 /* Prints what stands: open or not, the tonnage length, how many, the vessel number, and each space. */

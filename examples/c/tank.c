@@ -13,13 +13,14 @@ static void answered(const char *call, uint8_t number) {
     printf("%s %d\n", call, number);
 }
 
-/* Prints the answer to an entry: beside the number what the rounding of the length did, and of a U that of the depth at each station. */
+/* Prints the answer to an entry: beside the number what the rounding of the length did, of a U that of the depth at each station, and how
+ * many enclosing spaces were visited. */
 static void entered(fummidrake_entering_on answer) {
     size_t stations = answer.number == 0 ? STATIONS : 0;
     printf("enter %d %d ", answer.number, answer.roundings.length);
     for (size_t i = 0; i < stations; i++)
         printf("%s%d", i ? "," : "", answer.roundings.depths[i]);
-    printf("%s\n", stations ? "" : "-");
+    printf("%s %d\n", stations ? "" : "-", answer.visited);
 }
 
 /* Prints where a tank is measured: the number, its parts, and for each section the under-deck station. */
@@ -63,7 +64,8 @@ static void enter_under_deck(fummidrake_sheet *sheet) {
     entered(fummidrake_enter_on(sheet, under_deck, depths, STATIONS, breadths, STATIONS * BREADTHS));
 }
 
-/* Enters a tank with so many breadths: a depth and 5 breadths a section are asked. */
+/* Enters a tank with so many breadths: a depth and 5 breadths a section are asked. Prints the number, and how many enclosing spaces were
+ * visited. */
 static void enter_tank(fummidrake_sheet *sheet, uint16_t id, size_t breadths_count) {
     fummidrake_tank tank = {.id = id, .within = 1, .standing = 2, .length = TANK_LENGTH, .fore = TANK_FORE};
     uint32_t depths[SECTIONS] = {600, 600, 600, 600};
@@ -73,7 +75,8 @@ static void enter_tank(fummidrake_sheet *sheet, uint16_t id, size_t breadths_cou
         1800, 1600, 1400, 1000, 600, /* at 14 ft, inside 4 */
         1800, 1600, 1400, 1000, 600, /* at 20 ft, inside 4 */
     };
-    answered("tank", fummidrake_enter_tank_on(sheet, tank, depths, SECTIONS, breadths, breadths_count));
+    fummidrake_tank_entering_on answer = fummidrake_enter_tank_on(sheet, tank, depths, SECTIONS, breadths, breadths_count);
+    printf("tank %d %d\n", answer.number, answer.visited);
 }
 
 /* The tank is measured, entered and reported; another with a breadth missing, and one too long, are refused. */

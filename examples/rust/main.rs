@@ -18,13 +18,14 @@ fn answered(call: &str, answer: Changed) -> Sheet {
     answer.sheet
 }
 
-/// The same of an entry: beside the number what the rounding of the length did, and of a U that of the depth at each station.
+/// The same of an entry: beside the number what the rounding of the length did, of a U that of the depth at each station, and how many
+/// enclosing spaces were visited.
 fn entered(answer: Entering, stations_of_u: usize) -> Sheet {
-    let Entering { number, roundings, sheet } = answer;
+    let Entering { number, roundings, visited, sheet } = answer;
     let depths = if number == 0 { &roundings.depths[..stations_of_u] } else { &[] };
     let depths: Vec<String> = depths.iter().map(|depth| depth.to_string()).collect();
     let list = if depths.is_empty() { "-".to_string() } else { depths.join(",") };
-    println!("enter {number} {} {list}", roundings.length);
+    println!("enter {number} {} {list} {visited}", roundings.length);
     sheet
 }
 

@@ -4,7 +4,7 @@
 #[path = "../../rust/fummidrake.rs"]
 mod fummidrake;
 
-use fummidrake::{lay_out, read, section_station, Changed, Entering, Entry, Reading, Sheet, Tank};
+use fummidrake::{lay_out, read, section_station, Changed, Entering, Entry, Reading, Sheet, Tank, TankEntering};
 
 const LENGTH: u32 = 3600;
 /// An end where bow or stern is upright, as this barge's are: its section counts with the area it has.
@@ -36,11 +36,12 @@ fn answered(call: &str, answer: Changed) -> Sheet {
     answer.sheet
 }
 
-/// The same of an entry: beside the number what the rounding of the length did, and of a U that of the depth at each station.
+/// The same of an entry: beside the number what the rounding of the length did, of a U that of the depth at each station, and how many
+/// enclosing spaces were visited.
 fn entered(answer: Entering) -> Sheet {
-    let Entering { number, roundings, sheet } = answer;
+    let Entering { number, roundings, visited, sheet } = answer;
     let depths = if number == 0 { &roundings.depths[..STATIONS.len()] } else { &[] };
-    println!("enter {number} {} {}", roundings.length, joined(depths));
+    println!("enter {number} {} {} {visited}", roundings.length, joined(depths));
     sheet
 }
 
@@ -83,8 +84,11 @@ fn under_deck_entered(sheet: Sheet) -> Sheet {
     entered(sheet.enter(under_deck, &[1200; 7], STATIONS.as_flattened()))
 }
 
+/// Enters a tank, and prints the number and how many enclosing spaces were visited.
 fn tank_entered(sheet: Sheet, tank: Tank, breadths: &[u32]) -> Sheet {
-    answered("tank", sheet.enter_tank(tank, &[600; 4], breadths))
+    let TankEntering { number, visited, sheet } = sheet.enter_tank(tank, &[600; 4], breadths);
+    println!("tank {number} {visited}");
+    sheet
 }
 
 /// The tank is measured, entered and reported; another with a breadth missing, and one too long, are refused.

@@ -156,9 +156,9 @@ pub standard-first-refused :
     One standard.records.first_refused.ended standard.records.first_refused.Reads.Asked standard.records.first_refused.Reads.Learnt
 standard-first-refused _ = record { nothing-asked = tt; one-answer = agree; one-left = λ p q. refl }
 
-pub standard-entry-number :
-    One standard.rules.entry_number.ended standard.rules.entry_number.Reads.Asked standard.rules.entry_number.Reads.Learnt
-standard-entry-number _ = record { nothing-asked = tt; one-answer = agree; one-left = λ p q. refl }
+pub standard-entry-ruling :
+    One standard.rules.entry_ruling.ended standard.rules.entry_ruling.Reads.Asked standard.rules.entry_ruling.Reads.Learnt
+standard-entry-ruling _ = record { nothing-asked = tt; one-answer = agree; one-left = λ p q. refl }
 
 pub standard-withdraw-ruling :
     One standard.rules.withdraw_ruling.ended standard.rules.withdraw_ruling.Reads.Asked standard.rules.withdraw_ruling.Reads.Learnt
@@ -176,9 +176,9 @@ pub standard-under-deck-with :
     One standard.tanks.under_deck_with.ended standard.tanks.under_deck_with.Reads.Asked standard.tanks.under_deck_with.Reads.Learnt
 standard-under-deck-with _ = record { nothing-asked = tt; one-answer = agree; one-left = λ p q. refl }
 
-pub standard-tank-number :
-    One standard.tanks.tank_number.ended standard.tanks.tank_number.Reads.Asked standard.tanks.tank_number.Reads.Learnt
-standard-tank-number _ = record { nothing-asked = tt; one-answer = agree; one-left = λ p q. refl }
+pub standard-tank-ruling :
+    One standard.tanks.tank_ruling.ended standard.tanks.tank_ruling.Reads.Asked standard.tanks.tank_ruling.Reads.Learnt
+standard-tank-ruling _ = record { nothing-asked = tt; one-answer = agree; one-left = λ p q. refl }
 
 -- sheet
 pub sheet-open :

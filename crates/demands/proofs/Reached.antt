@@ -2,11 +2,12 @@
 -- sheet_laws, AnyRun.
 use Prim.Native.Nat.{_≤_}
 use mathlib.Core.Path.{_≡_, refl, sym, ap, _∙_}
+use mathlib.Core.Bool.{true}
 use mathlib.Core.List.{List, [], _∷_}
 use Rattle.measure.specs.declared.units.Hundredths.{Hundredths}
 use Rattle.spaces.specs.Space.{allRecorded}
 use Rattle.spaces.specs.declared.space.Space.{Space}
-use Rattle.sheet.specs.Sheet.{standing}
+use Rattle.sheet.specs.Sheet.{standing, usable}
 use Rattle.sheet.specs.declared.sheet.Sheet.{Sheet}
 use Rattle.sheet_laws.specs.Run.{answer, after}
 use Rattle.sheet_laws.specs.Resumable.{OfRecords}
@@ -44,6 +45,11 @@ unfolding written
 writes-change-nothing [] s = refl
 writes-change-nothing (call c ∷ calls) s = writes-change-nothing calls (answer c s .sheet)
 writes-change-nothing (write justified form size at ∷ calls) s = writes-change-nothing calls s
+
+-- after any calls it is still open
+pub reached-open : {s : Sheet} → Reached s → usable s ≡ true
+reached-open (reached {first = first} begun calls) =
+    rw (writes-change-nothing calls first) (after-any-run-from-records (begun-of-records begun) (withoutWrites calls) .history .is-usable)
 
 -- after any calls its spaces are still all accepted as records, in order, on the 200 places of an open sheet
 pub reached-resumable : {s : Sheet} → Reached s → ResumableSheet s

@@ -5,8 +5,8 @@ use mathlib.Core.Logic.{⊎-elim, _↔_}
 use mathlib.Core.Bool.{Bool, true, false, not, _&&_, _||_}
 use mathlib.Core.List.{List, [], _∷_, _++_}
 use native.Mathlib.Omega.{arith}
-use borrow.Author.Tests.{not-true, eqb-true, eqb-false}
-use lib.Dec.{eqb}
+use borrow.Author.Tests.{not-true, eqb-true, eqb-false, ltb-true, ltb-false}
+use lib.Dec.{eqb, ltb}
 use Rattle.measure.specs.Refusals.{firstOf, Refuse, here, later, Accept}
 use Rattle.measure_laws.proofs.Refusals.{refused-with, accepted, judged}
 use Rattle.spaces.proofs.laws.Cases.{by-test}
@@ -74,7 +74,24 @@ lowest-given tests ascend =
         less : (firstOf tests ≡ n → ⊥) → firstOf tests < n
         less f = omega (arith, at-most-any 0 ascend a)
 
+-- so where a condition holds, its number is given or a lower one
+pub given-at-most : {tests : List (Bool × ℕ)} {number k : ℕ} → LowestGiven tests number → Applies tests k → (0 < number) × (number ≤ k)
+given-at-most {tests} {number} {k} given a = (some, at-most)
+  where
+    some : 0 < number
+    some = by-test (eqb number 0) (λ t. absurd (given .accepted-exactly .0 (eqb-true number 0 t) k a)) (λ f. omega (arith, eqb-false number 0 f))
+
+    at-most : number ≤ k
+    at-most =
+        by-test (ltb k number)
+        (λ t. absurd (given .refused-exactly number some .0 refl .1 k (ltb-true k number t) a))
+        (λ f. ltb-false k number f)
+
 -- ---- one number
+
+-- the first test applies
+pub applies-first : {b : Bool} {n : ℕ} {tests : List (Bool × ℕ)} → b ≡ true → Applies ((b, n) ∷ tests) n
+applies-first t = rw t first
 
 -- no test has the number n
 abbrev pub without : ℕ → List (Bool × ℕ) → Bool
@@ -91,7 +108,7 @@ never-given {n = n} none (further {test = test} {tests = tests} a) = never-given
 
 -- and given by one test behind them exactly where that applies
 pub applies-last : (tests : List (Bool × ℕ)) (b : Bool) (n : ℕ) → without n tests ≡ true → Applies (tests ++ ((b, n) ∷ [])) n ↔ (b ≡ true)
-applies-last [] b n none = (here, λ t. rw t first)
+applies-last [] b n none = (here, applies-first)
   where
     here : {b : Bool} → Applies ((b, n) ∷ []) n → b ≡ true
     here first = refl

@@ -2,5 +2,6 @@
 pub mod Reached
 pub mod Tests
 pub mod Refusals
+pub mod Visited
 pub mod Figures
 pub mod OneAnswer

@@ -20,6 +20,7 @@ use sheet::Entry;
 use sheet::Reported;
 use sheet::Sheet;
 use sheet::Tank;
+use sheet::TankEntering;
 use spaces::space::Space;
 ghost use mathlib.Core.Path.{_≡_};
 ghost use lib.ListN.{length};
@@ -29,7 +30,7 @@ ghost use Rattle.measure.specs.Offsets.{stations as stationsOf, breadthsAtStati
 ghost use Rattle.measure.specs.Tanks.{laidOut, sectionStation};
 ghost use Rattle.sheet.specs.Sheet.{usable, lengthOf, vesselOf, standingCount, spaceAt};
 ghost use Rattle.sheet.specs.Calls.{openedWith, entering, withdrawn, marked, undone, redone, counted, reported};
-ghost use Rattle.sheet.specs.Tanks.{tankEntered};
+ghost use Rattle.sheet.specs.Tanks.{tankEntering};
 ghost use Rattle.dayfile.specs.Writing.{written, writtenInto};
 ghost use Rattle.dayfile.specs.Reading.{readOf, readBefore};
 ghost use Rattle.dayfile.specs.Moving.{moved, movedInto};
@@ -60,8 +61,8 @@ pub extern "C" fn fummidrake_enter_tank(
     tank: Tank,
     depths: &[u32],
     breadths: &[u32],
-) -> Changed
-    ensures { λ r. ⌜ r ≡ tankEntered sheet tank (now (depths .entry)) (now (breadths .entry)) ⌝ }
+) -> TankEntering
+    ensures { λ r. ⌜ r ≡ tankEntering sheet tank (now (depths .entry)) (now (breadths .entry)) ⌝ }
 {
     sheet.enter_tank(tank, depths, breadths)
 }

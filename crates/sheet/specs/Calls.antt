@@ -13,6 +13,7 @@ use Rattle.measure.specs.Ends.{endsOf}
 use Rattle.measure.specs.declared.units.Hundredths.{Hundredths}
 use Rattle.measure.specs.declared.offsets.Measured.{Measured}
 use Rattle.spaces.specs.Row.{find, placeOf, spaceWith, sumOf}
+use Rattle.spaces.specs.Enclosure.{visited}
 use Rattle.standard.specs.Standings.{greatestStanding}
 use Rattle.standard.specs.Rules.{entryTests, withdrawTests, markTests}
 use Rattle.standard.specs.Gross.{gross, net, needsMark, deductionsPass}
@@ -95,19 +96,25 @@ unfoldable pub entered : Sheet → Entry → List ℕ → List ℕ → Changed
 entered s e heights breadths =
     answered (enterNumber s e heights breadths) s (changed (Entered (spaceOf (s .length) e heights breadths)) s)
 
--- and with the change what it "passes on" (T-04 of document 02): the roundings of an accepted entry, none of a refused one
+-- "the number of enclosing spaces visited" (T-07 of document 02) where the space x is to be entered: none on a sheet not open
+abbrev pub visitedFor : Sheet → Space → ℕ
+visitedFor s x = cond (usable s) (visited (standing s) x) 0
+
+-- with the change what it "passes on" (T-04 of document 02), the roundings of an accepted entry, none of a refused one; and the enclosing
+-- spaces visited, whatever the number
 unfoldable pub entering : Sheet → Entry → List ℕ → List ℕ → Entering
 entering s e heights breadths =
     let change = entered s e heights breadths in
     record {
       number = change .number;
       roundings = cond (eqb (change .number) 0) (passedOn (kindOf (e .kind)) (s .length) (e .length) heights) noRoundings;
+      visited = visitedFor s (spaceOf (s .length) e heights breadths);
       sheet = change .sheet;
     }
 
 -- a refused entry hands back the sheet as it came
-abbrev pub entryRefused : ℕ → Sheet → Entering
-entryRefused number s = record { number = number; roundings = noRoundings; sheet = s }
+abbrev pub entryRefused : (number visited : ℕ) → Sheet → Entering
+entryRefused number visited s = record { number = number; roundings = noRoundings; visited = visited; sheet = s }
 
 -- ---- withdraw and mark
 

@@ -10,10 +10,11 @@ use Rattle.measure.specs.declared.offsets.Measured.{Measured}
 use Rattle.spaces.specs.declared.space.Space.{Space}
 use Rattle.standard.specs.Tanks.{underDeckWith, tankTests}
 use Rattle.sheet.specs.Sheet.{standing, usable}
-use Rattle.sheet.specs.Calls.{answered, changed, outOfRange}
+use Rattle.sheet.specs.Calls.{answered, changed, outOfRange, visitedFor}
 use Rattle.sheet.specs.declared.changes.Change.the-variants.{Entered}
 use Rattle.sheet.specs.declared.sheet.Sheet.{Sheet}
 use Rattle.sheet.specs.declared.tanks.Tank.{Tank}
+use Rattle.sheet.specs.declared.tanks.TankEntering.{TankEntering}
 use Rattle.sheet.specs.declared.calls.Changed.{Changed}
 
 -- the record of a tank with its tonnage: "The result is a room directly inside that U."
@@ -62,3 +63,13 @@ enterTankNumber s k depths breadths =
 unfoldable pub tankEntered : Sheet → Tank → List ℕ → List ℕ → Changed
 tankEntered s k depths breadths =
     answered (enterTankNumber s k depths breadths) s (changed (Entered (tankIn (s .length) (standing s) k depths breadths)) s)
+
+-- with the change the enclosing spaces visited, whatever the number: a tank is a room (T-07)
+unfoldable pub tankEntering : Sheet → Tank → List ℕ → List ℕ → TankEntering
+tankEntering s k depths breadths =
+    let change = tankEntered s k depths breadths in
+    record {
+      number = change .number;
+      visited = visitedFor s (tankIn (s .length) (standing s) k depths breadths);
+      sheet = change .sheet;
+    }

@@ -19,13 +19,17 @@ use measure::units::Hundredths;
 use spaces::space::GREATEST_DECK;
 use spaces::space::Space;
 use standard::gross::reckon;
-use standard::rules::entry_number;
+use standard::rules::entry_ruling;
 use standard::rules::mark_ruling;
 use standard::rules::withdraw_ruling;
 use standard::standings::GREATEST_STANDING;
 ghost use mathlib.Core.Path.{_≡_};
-ghost use mathlib.Core.Bool.{_&&_};
+ghost use mathlib.Core.Bool.{not, _&&_};
+ghost use mathlib.Core.List.{[], _∷_};
 ghost use lib.Dec.{eqb};
+ghost use Rattle.measure.specs.Refusals.{firstOf};
+ghost use Rattle.measure.specs.Ends.{endAreas};
+ghost use Rattle.sheet.specs.Ends.{pointedWithArea};
 ghost use Rattle.sheet.specs.Calls.{openedWith, outOfRange, misstated as misstatedOf, entryOf, entering, entryRefused, withdrawn, marked, undone, redone, counted, reported, figuresOf};
 
 // What is entered: the enclosing id is looked at only of a room, and the ends only of a U: 1 inner (at a step), 2 upright, 3 pointed.
@@ -47,11 +51,13 @@ pub struct Changed {
     pub sheet: Sheet,
 }
 
-// What entering answers: with the change the roundings that an accepted space passes on, 0 each where refused.
+// What entering answers: with the change the roundings that an accepted space passes on, 0 each where refused; and, refused or not,
+// how many enclosing spaces were visited, 0 of a kind that is no room and on a sheet not open.
 #[repr(C)]
 pub struct Entering {
     pub number: u8,
     pub roundings: Roundings,
+    pub visited: u8,
     pub sheet: Sheet,
 }
 
@@ -89,6 +95,26 @@ impl Entry {
         !self.ends_fit()
     }
 
+    // The first of its numbers: 2 by what it says; `measured`, as its offsets are judged; `ruled`, by the spaces that stand; and 19.
+    fn judged(
+        self,
+        measured: u8,
+        ruled: u8,
+        whole: Hundredths,
+        heights: &[u32],
+        breadths: &[u32],
+    ) -> u8
+        ensures { λ r. ⌜ r ≡ firstOf ((misstatedOf self, 2) ∷ (not (eqb measured 0), measured) ∷ (not (eqb ruled 0), ruled) ∷ (pointedWithArea self (endAreas whole (self .length) (now (heights .entry)) (now (breadths .entry))), 19) ∷ []) ⌝ }
+    {
+        if self.misstated() {
+            return OUTSIDE_ITS_RANGE;
+        }
+        if measured != 0 {
+            return measured;
+        }
+        self.judged_by_ends(ruled, whole, heights, breadths)
+    }
+
     // The record of an entry, with its m and its tonnage.
     fn space(self, m: u8, tonnage: u32) -> Space
         ensures { λ r. ⌜ r ≡ entryOf self m tonnage ⌝ }
@@ -113,12 +139,13 @@ impl Entry {
 
 impl Entering {
     // A refused entry passes no rounding on, and hands the sheet back as it came.
-    fn refused(number: u8, sheet: Sheet) -> Entering
-        ensures { λ r. ⌜ r ≡ entryRefused number sheet ⌝ }
+    fn refused(number: u8, visited: u8, sheet: Sheet) -> Entering
+        ensures { λ r. ⌜ r ≡ entryRefused number visited sheet ⌝ }
     {
         Entering {
             number,
             roundings: roundings::none(),
+            visited,
             sheet,
         }
     }
@@ -146,29 +173,25 @@ impl Sheet {
         ensures { λ r. ⌜ r ≡ entering self entry (now (heights .entry)) (now (breadths .entry)) ⌝ }
     {
         if !self.usable() {
-            return Entering::refused(NOT_OPEN, self);
-        }
-        if entry.misstated() {
-            return Entering::refused(OUTSIDE_ITS_RANGE, self);
+            return Entering::refused(NOT_OPEN, 0, self);
         }
         let whole = self.length;
         let offsets = measure_offsets(entry.kind, whole, entry.length, heights, breadths);
         let measured = offsets.measured;
-        if measured.number != 0 {
-            return Entering::refused(measured.number, self);
-        }
         let x = entry.space(m_of(kind_of(entry.kind), heights), measured.tonnage);
         let spaces = self.spaces;
-        let ruled = entry_number(spaces, self.count, whole, x);
-        let number = entry.judged_by_ends(ruled, whole, heights, breadths);
+        let ruling = entry_ruling(spaces, self.count, whole, x);
+        let visited = ruling.visited;
+        let number = entry.judged(measured.number, ruling.number, whole, heights, breadths);
         if number != 0 {
-            return Entering::refused(number, self);
+            return Entering::refused(number, visited, self);
         }
         let roundings = offsets.roundings;
         let change = Change::Entered(x);
         Entering {
             number: 0,
             roundings,
+            visited,
             sheet: self.made(change).noted(change),
         }
     }

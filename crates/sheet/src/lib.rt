@@ -21,3 +21,4 @@ pub use calls::Reported;
 pub use resume::Resumed;
 pub use sheet::Sheet;
 pub use tanks::Tank;
+pub use tanks::TankEntering;

@@ -1,5 +1,4 @@
 // The entry of a tank (T-01 of document 02): a room that follows the hull, measured in the U that it names.
-use crate::calls::Changed;
 use crate::calls::out_of_range;
 use crate::changes::Change;
 use crate::refusals::NOT_OPEN;
@@ -11,13 +10,14 @@ use measure::refusals::OUTSIDE_ITS_RANGE;
 use measure::tanks::measure_tank;
 use measure::units::Hundredths;
 use spaces::space::Space;
-use standard::tanks::tank_number;
+use standard::tanks::tank_ruling;
 use standard::tanks::under_deck_with;
 ghost use mathlib.Core.Path.{_≡_};
-ghost use mathlib.Core.Bool.{_||_};
+ghost use mathlib.Core.Bool.{cond, _||_};
 ghost use lib.Dec.{eqb};
 ghost use lib.ListN.{take};
-ghost use Rattle.sheet.specs.Tanks.{tankOf, tankMeasured, tankEntered};
+ghost use Rattle.sheet.specs.Calls.{outOfRange};
+ghost use Rattle.sheet.specs.Tanks.{tankOf, tankMeasured, tankEntering};
 
 // A tank to be entered: `within` is the id of its U, `fore` the distance of its fore end along that.
 #[repr(C)]
@@ -28,6 +28,14 @@ pub struct Tank {
     pub deck: u8,
     pub length: Hundredths,
     pub fore: Hundredths,
+}
+
+// What entering a tank answers: with the change how many enclosing spaces were visited, refused or not; 0 on a sheet not open.
+#[repr(C)]
+pub struct TankEntering {
+    pub number: u8,
+    pub visited: u8,
+    pub sheet: Sheet,
 }
 
 impl Tank {
@@ -46,6 +54,19 @@ impl Tank {
         let length = self.length;
         let fore = self.fore;
         measure_tank(whole, u.length, u.m, length, fore, depths, breadths)
+    }
+
+    // The first of its numbers: 2 by what it says; `measured`, where its measures are wrong; and `ruled`, by the spaces that stand.
+    fn judged(self, measured: u8, ruled: u8) -> u8
+        ensures { λ r. ⌜ r ≡ cond (outOfRange (self .standing) (self .deck)) 2 (cond (eqb measured 2 || eqb measured 3) measured ruled) ⌝ }
+    {
+        if out_of_range(self.standing, self.deck) {
+            return OUTSIDE_ITS_RANGE;
+        }
+        if ill_measured(measured) {
+            return measured;
+        }
+        ruled
     }
 
     // The record of a tank, with its tonnage.
@@ -68,41 +89,34 @@ impl Tank {
 
 impl Sheet {
     // Enters a tank from its sections, as `measure::tanks::measure_tank` takes them.
-    pub fn enter_tank(self, tank: Tank, depths: &[u32], breadths: &[u32]) -> Changed
-        ensures { λ r. ⌜ r ≡ tankEntered self tank (now (depths .entry)) (now (breadths .entry)) ⌝ }
+    pub fn enter_tank(self, tank: Tank, depths: &[u32], breadths: &[u32]) -> TankEntering
+        ensures { λ r. ⌜ r ≡ tankEntering self tank (now (depths .entry)) (now (breadths .entry)) ⌝ }
     {
         if !self.usable() {
-            return Changed {
+            return TankEntering {
                 number: NOT_OPEN,
-                sheet: self,
-            };
-        }
-        if out_of_range(tank.standing, tank.deck) {
-            return Changed {
-                number: OUTSIDE_ITS_RANGE,
+                visited: 0,
                 sheet: self,
             };
         }
         let spaces = self.spaces;
         let whole = self.length;
         let measured = tank.measured(whole, spaces, self.count, depths, breadths);
-        if ill_measured(measured.number) {
-            return Changed {
-                number: measured.number,
-                sheet: self,
-            };
-        }
         let x = tank.space(measured.tonnage);
-        let number = tank_number(spaces, self.count, whole, x, tank.fore);
+        let ruling = tank_ruling(spaces, self.count, whole, x, tank.fore);
+        let visited = ruling.visited;
+        let number = tank.judged(measured.number, ruling.number);
         if number != 0 {
-            return Changed {
+            return TankEntering {
                 number,
+                visited,
                 sheet: self,
             };
         }
         let change = Change::Entered(x);
-        Changed {
+        TankEntering {
             number: 0,
+            visited,
             sheet: self.made(change).noted(change),
         }
     }

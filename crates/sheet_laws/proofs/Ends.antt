@@ -104,10 +104,11 @@ unfolding entered endsFit pointedWithArea entryOf
 pointed-as-upright bow s e hs bs none = rw (eq-eqb _ 0 none)
 pointed-as-upright stern s e hs bs none = rw (eq-eqb _ 0 none)
 
--- and whatever an end is said to be, where the change is the same the whole answer is: what is passed on (T-04) goes by kind and length
+-- and whatever an end is said to be, where the change is the same the whole answer is: what is passed on (T-04) goes by kind and length,
+-- and what is visited (T-07) by the enclosing id
 pub same-passed-on : (side : Side) (one other : ℕ) (s : Sheet) (e : Entry) (hs bs : List ℕ)
     → entered s (saying side one e) hs bs ≡ entered s (saying side other e) hs bs → entering s (saying side one e) hs bs ≡ entering s (saying side other e) hs bs
-unfolding entering
+unfolding entering entryOf
 same-passed-on bow one other s e hs bs same = rw same
 same-passed-on stern one other s e hs bs same = rw same
 

@@ -32,6 +32,10 @@ above xs x = upward 8 xs x
 abbrev pub level : List Space → Space → ℕ
 level xs x = length (above xs x) + 1
 
+-- "the number of enclosing spaces visited: one for the named space and one for each step above it to level 1" (T-07 of document 02)
+abbrev pub visited : List Space → Space → ℕ
+visited xs x = length (above xs x)
+
 abbrev pub allPlain : List Space → Bool
 allPlain [] = true
 allPlain (z ∷ zs) = isPlain z && allPlain zs

@@ -12,7 +12,7 @@ use Rattle.spaces.specs.Row.{isSome}
 use Rattle.spaces.specs.declared.space.Space.{Space}
 use Rattle.spaces.specs.declared.row.Found.{Found}
 use Rattle.spaces.specs.declared.row.Found.the-variants.{At, Nothing}
-use Rattle.spaces.specs.Enclosure.{enclosing}
+use Rattle.spaces.specs.Enclosure.{enclosing, visited}
 use Rattle.spaces.specs.Around.{aroundOf}
 use Rattle.spaces.specs.declared.around.Around.{Around}
 use Rattle.standard.specs.Standings.{mayTake}
@@ -52,8 +52,9 @@ misplacedBy x o = not (mayTake (x .kind) (x .standing)) || inHatchway o
 abbrev pub entryNumberBy : Hundredths → Space → Option Space → Around → Bool → ℕ
 entryNumberBy L x o a full = judgedNumber x o a (misplacedBy x o) (overfullBy L x o (a .beside)) full
 
--- all that an entry's rules ask of the spaces xs that stand, as the code has it
+-- all that judging an entry finds on the spaces xs that stand, as the code has it
 pub record SeenAs (xs : List Space) (x : Space) (r : Seen) : Type 0 where
   pub found-is : searched (r .found) ≡ enclosing xs x
   pub around-is : r .around ≡ aroundOf xs x
+  pub visited-is : r .visited ≡ visited xs x
   pub full-is : r .full ≡ noPlace xs

@@ -10,10 +10,11 @@ use Rattle.measure.specs.Refusals.{firstOf}
 use Rattle.measure.specs.declared.units.Hundredths.{Hundredths}
 use Rattle.spaces.specs.Space.{isUnderDeck, isHatchway, isRoom, isPlain}
 use Rattle.spaces.specs.Row.{find, placeOf, spaceWith, stands, sumOf}
-use Rattle.spaces.specs.Enclosure.{enclosing, above, level, allPlain, below}
+use Rattle.spaces.specs.Enclosure.{enclosing, above, level, visited, allPlain, below}
 use Rattle.spaces.specs.declared.space.Space.{Space}
 use Rattle.spaces.specs.declared.sums.Amount.the-variants.{Inside, Rooms, Lengths}
 use Rattle.standard.specs.Standings.{mayTake}
+use Rattle.standard.specs.declared.rules.EntryRuling.{EntryRuling}
 use Rattle.standard.specs.declared.rules.Ruling.{Ruling}
 
 -- 4: "new id outside its range or already standing" ("Id 1 to 9,999")
@@ -69,6 +70,10 @@ entryTests L xs x = testsOf xs x (misplaced xs x) (overfull L xs x)
 
 unfoldable pub entryNumber : Hundredths → List Space → Space → ℕ
 entryNumber L xs x = firstOf (entryTests L xs x)
+
+-- with its number the enclosing spaces visited: "accepted or refused" (T-07 of document 02)
+abbrev pub entryRuling : (number : ℕ) → List Space → Space → EntryRuling
+entryRuling number xs x = record { number = number; visited = visited xs x }
 
 -- 11: "withdrawal of a space that encloses a room"
 abbrev pub enclosesRoom : List Space → ℕ → Bool

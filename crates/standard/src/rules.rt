@@ -36,11 +36,17 @@ ghost use lib.ListN.{take};
 ghost use Rattle.spaces.specs.Space.{emptySpace, isRoom, isPlain};
 ghost use Rattle.spaces.specs.Row.{isSome};
 ghost use Rattle.spaces.specs.Enclosure.{above, allPlain, below};
-ghost use Rattle.standard.specs.Rules.{entryNumber, enclosesRoom, withdrawRuling, markRuling};
+ghost use Rattle.standard.specs.Rules.{entryNumber, entryRuling, enclosesRoom, withdrawRuling, markRuling};
 ghost use Rattle.standard.specs.Handed.{searched, overfullBy, judgedNumber, misplacedBy, entryNumberBy, SeenAs};
 
 // Ids go from 1 to 9,999.
 pub const GREATEST_ID: u16 = 9_999;
+
+// An entry judged: the number with which it is refused, or 0, and how many enclosing spaces were visited, whatever the number.
+pub struct EntryRuling {
+    pub number: u8,
+    pub visited: u8,
+}
 
 // A withdrawal or a mark judged: the number with which it is refused, or 0, and the space with its id and the place of that, from 0;
 // an empty record and as many as stand where none has it.
@@ -50,10 +56,12 @@ pub struct Ruling {
     pub space: Space,
 }
 
-// What an entry finds on the spaces that stand: its enclosing space, what else is around it, and whether 200 stand.
+// What an entry finds on the spaces that stand: its enclosing space, what else is around it, how many enclosing spaces were visited,
+// and whether 200 stand.
 pub(crate) struct Seen {
     pub(crate) found: Found,
     pub(crate) around: Around,
+    pub(crate) visited: u8,
     pub(crate) full: bool,
 }
 
@@ -201,18 +209,27 @@ pub(crate) fn see(spaces: [Space; 200], count: usize, x: Space) -> Seen
     Seen {
         found: found_if(home < n, z),
         around,
+        visited: around.levels as u8,
         full: PLACES <= n,
     }
 }
 
-// The number with which an entry of x is refused, or 0.
-pub fn entry_number(spaces: [Space; 200], count: usize, tonnage_length: Hundredths, x: Space) -> u8
-    ensures { λ r. ⌜ r ≡ entryNumber «tonnage_length» (take count spaces) x ⌝ }
+// An entry of x judged: 4 to 10.
+pub fn entry_ruling(
+    spaces: [Space; 200],
+    count: usize,
+    tonnage_length: Hundredths,
+    x: Space,
+) -> EntryRuling
+    ensures { λ r. ⌜ r ≡ entryRuling (entryNumber «tonnage_length» (take count spaces) x) (take count spaces) x ⌝ }
 {
     let seen = see(spaces, count, x);
     let found = seen.found;
     let around = seen.around;
-    judged_entry(x, tonnage_length, found, around, seen.full)
+    EntryRuling {
+        number: judged_entry(x, tonnage_length, found, around, seen.full),
+        visited: seen.visited,
+    }
 }
 
 // 11: withdrawal of a space that encloses a room.

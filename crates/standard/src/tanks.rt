@@ -1,4 +1,5 @@
 // When the entry of a tank is refused on the spaces that stand (T-01 of document 02): as a room's, and by the U that it names.
+use crate::rules::EntryRuling;
 use crate::rules::judged;
 use crate::rules::misplaced;
 use crate::rules::overfull;
@@ -13,8 +14,12 @@ use spaces::row::find;
 use spaces::space::Space;
 use spaces::space::empty;
 ghost use mathlib.Core.Path.{_≡_};
-ghost use mathlib.Core.Bool.{_&&_, _||_};
+ghost use mathlib.Core.Bool.{not, _&&_, _||_};
+ghost use mathlib.Core.List.{[], _∷_};
+ghost use lib.Dec.{eqb};
 ghost use lib.ListN.{take};
+ghost use Rattle.measure.specs.Refusals.{firstOf};
+ghost use Rattle.standard.specs.Rules.{entryRuling};
 ghost use Rattle.standard.specs.Tanks.{underDeckIn, underDeckWith, inNoUnderDeck, pastEnd, measurableIn, withoutM, tankNumber};
 ghost use Rattle.standard.specs.Handed.{searched, misplacedBy, overfullBy};
 
@@ -105,15 +110,27 @@ fn without_m(found: Found) -> bool
     false
 }
 
-// The number with which the entry of a tank is refused, or 0: x is its record.
-pub fn tank_number(
+// The number that the other tests gave, and 29 after them all.
+fn judged_by_m(number: u8, found: Found) -> u8
+    ensures { λ r. ⌜ r ≡ firstOf ((not (eqb number 0), number) ∷ (withoutM (searched found), 29) ∷ []) ⌝ }
+{
+    if number == 0 {
+        if without_m(found) {
+            return NO_M;
+        }
+    }
+    number
+}
+
+// The entry of a tank judged: 4 to 10, and 29. x is its record.
+pub fn tank_ruling(
     spaces: [Space; 200],
     count: usize,
     tonnage_length: Hundredths,
     x: Space,
     fore: Hundredths,
-) -> u8
-    ensures { λ r. ⌜ r ≡ tankNumber «tonnage_length» (take count spaces) x fore ⌝ }
+) -> EntryRuling
+    ensures { λ r. ⌜ r ≡ entryRuling (tankNumber «tonnage_length» (take count spaces) x fore) (take count spaces) x ⌝ }
 {
     let seen = see(spaces, count, x);
     let found = seen.found;
@@ -121,11 +138,8 @@ pub fn tank_number(
     let misplaced = tank_misplaced(x, found);
     let overfull = tank_overfull(x, tonnage_length, found, around.beside, fore);
     let number = judged(x, found, around, misplaced, overfull, seen.full);
-    if number != 0 {
-        return number;
+    EntryRuling {
+        number: judged_by_m(number, found),
+        visited: seen.visited,
     }
-    if without_m(found) {
-        return NO_M;
-    }
-    0
 }

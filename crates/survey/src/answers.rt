@@ -16,6 +16,7 @@ use sheet::Counted;
 use sheet::Entering;
 use sheet::Reported;
 use sheet::Sheet;
+use sheet::TankEntering;
 use spaces::space::Space;
 ghost use Prim.Native.Nat.{_+_, _<_, _≤_};
 ghost use lib.ListN.{length};
@@ -34,7 +35,8 @@ pub fn changed(changed: Changed) -> Sheet {
     changed.sheet
 }
 
-// The rounding of the length and, of an accepted U, those of the depths at its stations; `-` where there are none.
+// The rounding of the length; of an accepted U those of the depths at its stations, `-` where there are none; and the enclosing
+// spaces visited.
 pub fn entering(entering: Entering, kind: u8, stations: usize) -> Sheet {
     let roundings = entering.roundings;
     print_number(entering.number as u64, b" ");
@@ -45,7 +47,15 @@ pub fn entering(entering: Entering, kind: u8, stations: usize) -> Sheet {
     } else {
         print(b"-");
     }
-    print(b"\n");
+    print(b" ");
+    print_number(entering.visited as u64, b"\n");
+    entering.sheet
+}
+
+// The enclosing spaces visited.
+pub fn tank_entering(entering: TankEntering) -> Sheet {
+    print_number(entering.number as u64, b" ");
+    print_number(entering.visited as u64, b"\n");
     entering.sheet
 }
 

@@ -205,11 +205,11 @@ fn enter(sheet: Sheet, line: &[u8], call: usize) -> Sheet {
     enter_from(sheet, line, call, &heights[..h], &breadths[..b])
 }
 
-// A tank passes no roundings on, and answers a number alone.
+// A tank passes no roundings on.
 fn enter_from(sheet: Sheet, line: &[u8], call: usize, heights: &[u32], breadths: &[u32]) -> Sheet {
     match call {
         ENTER_TANK | ENTER_TANK_WITH_DECK => {
-            answers::changed(sheet.enter_tank(tank(line), heights, breadths))
+            answers::tank_entering(sheet.enter_tank(tank(line), heights, breadths))
         }
         _ => {
             let entry = entry(line, call);

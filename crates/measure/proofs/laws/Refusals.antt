@@ -1,10 +1,10 @@
--- Laws of numbered tests: lists of them inside others.
+-- Laws of numbered tests: lists of them inside others, and one behind a number that others gave.
 use Prim.Native.Nat.{ℕ, _<_}
 use mathlib.Core.Path.{_≡_, refl}
 use mathlib.Core.Bool.{Bool, true, false, cond, not}
 use mathlib.Core.List.{List, [], _∷_, _++_}
 use native.Mathlib.Omega.{arith}
-use borrow.Author.Tests.{ne-eqb}
+use borrow.Author.Tests.{eq-eqb, ne-eqb}
 use lib.Dec.{eqb}
 use Rattle.measure.specs.Refusals.{firstOf}
 
@@ -22,3 +22,16 @@ spliced (test ∷ tests) rest numbered = by (test .0) (spliced tests rest (numbe
         → (let n = cond applies (test .1) (firstOf tests) in firstOf ((not (eqb n 0), n) ∷ rest)) ≡ cond applies (test .1) (firstOf (tests ++ rest))
     by true others = rw (ne-eqb (test .1) 0 (λ z. omega arith))
     by false others = others
+
+-- the number n that others gave, and a test with the number k after them all
+abbrev withLast : (n k : ℕ) → Bool → ℕ
+withLast n k b = firstOf ((not (eqb n 0), n) ∷ (b, k) ∷ [])
+
+pub last-unasked : (n k : ℕ) (b : Bool) → (n ≡ 0 → ⊥) → n ≡ withLast n k b
+last-unasked n k b given = rw (ne-eqb n 0 given)
+
+pub last-applies : (n k : ℕ) (b : Bool) → n ≡ 0 → b ≡ true → k ≡ withLast n k b
+last-applies n k b none t = rw (eq-eqb n 0 none, t)
+
+pub last-passes : (n k : ℕ) (b : Bool) → n ≡ 0 → b ≡ false → n ≡ withLast n k b
+last-passes n k b none f = rw (eq-eqb n 0 none, f) none

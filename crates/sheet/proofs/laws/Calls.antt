@@ -9,9 +9,11 @@ use lib.ListN.{length}
 use Rattle.measure.specs.Refusals.{firstOf}
 use Rattle.spaces.specs.declared.space.Space.{Space}
 use Rattle.spaces.proofs.laws.Cases.{by-test}
-use Rattle.sheet.specs.Sheet.{usable}
+use Rattle.standard.specs.Rules.{entryRuling}
+use Rattle.standard.specs.declared.rules.EntryRuling.{EntryRuling}
+use Rattle.sheet.specs.Sheet.{standing, usable}
 use Rattle.sheet.specs.Changes.{withStanding, fitted, made, noted}
-use Rattle.sheet.specs.Calls.{answered, changed}
+use Rattle.sheet.specs.Calls.{answered, changed, visitedFor}
 use Rattle.sheet.specs.Handed.{Places, OpenPlaces, Judged}
 use Rattle.sheet.specs.declared.changes.Change.{Change}
 use Rattle.sheet.specs.declared.sheet.Sheet.{Sheet}
@@ -70,6 +72,11 @@ pub accepted : (k : ℕ) (s : Sheet) (c : Change) (after next : Sheet) → k ≡
     → _≡_ {A = Changed} (record { number = 0; sheet = next }) (answered k s (changed c s))
 accepted k s c after next zero is-made is-noted =
     ap (λ (t : Sheet). record { number = 0; sheet = t }) (is-noted ∙ ap (noted c) is-made) ∙ ap (λ (n : ℕ). answered n s (changed c s)) (sym zero)
+
+-- a ruling on an open sheet has the enclosing spaces visited where its space is entered
+pub ruling-visits : (s : Sheet) {x y : Space} {n : ℕ} {ruling : EntryRuling} → usable s ≡ true → ruling ≡ entryRuling n (standing s) y → y ≡ x
+    → ruling .visited ≡ visitedFor s x
+ruling-visits s on is same = ap (λ (r : EntryRuling). r .visited) is ∙ rw (same, on)
 
 -- other standing spaces leave the open changes as they are
 pub fitted-open-places : (xs : List Space) (s : Sheet) → OpenPlaces s → OpenPlaces (fitted xs s)

@@ -8,7 +8,7 @@ use native.Mathlib.Numerals.{add-one}
 use native.Mathlib.Omega.{arith}
 use lib.ListN.{length}
 use Rattle.spaces.specs.Space.{isPlain}
-use Rattle.spaces.specs.Enclosure.{enclosing, onward, upward, above, among, allPlain, belowOf, walked}
+use Rattle.spaces.specs.Enclosure.{enclosing, onward, upward, above, visited, among, allPlain, belowOf, walked}
 use Rattle.spaces.specs.Handed.{pastOf}
 use Rattle.spaces.specs.declared.space.Space.{Space}
 
@@ -34,6 +34,11 @@ onward-short (some z) further left h = omega (arith, h z)
 pub upward-short : (left : ℕ) (xs : List Space) (x : Space) → length (upward left xs x) ≤ left
 upward-short zero xs x = omega arith
 upward-short (suc left) xs x = onward-short (enclosing xs x) (λ z. upward left xs z) left (λ z. upward-short left xs z)
+
+-- "It is at most 8" (T-07)
+pub visited-at-most : (xs : List Space) (x : Space) → visited xs x ≤ 8
+unfolding above
+visited-at-most xs x = upward-short 8 xs x
 
 pub walked-past : (z : Space) (zs : List Space) → walked (z ∷ zs) ≡ pastOf (z .standing) (walked zs)
 walked-past z zs = ap (λ (n : ℕ). record { levels = n; plain = isPlain z && allPlain zs }) (sym (add-one (length zs)))

@@ -14,7 +14,7 @@ use Rattle.measure.specs.declared.units.Hundredths.{Hundredths}
 use Rattle.measure.specs.Refusals.{firstOf}
 use Rattle.spaces.specs.Space.{emptySpace, isUnderDeck, isRoom}
 use Rattle.spaces.specs.Row.{used, find, placeOf, isSome, sumOf}
-use Rattle.spaces.specs.Enclosure.{enclosing, above}
+use Rattle.spaces.specs.Enclosure.{enclosing, above, visited}
 use Rattle.spaces.specs.Around.{enclosingPlace, aroundOf}
 use Rattle.spaces.specs.declared.space.Space.{Space}
 use Rattle.spaces.specs.declared.around.Around.{Around}
@@ -87,6 +87,11 @@ beside-others xs x e =
 pub home-encloses : (xs : List Space) (x : Space) (a : Around) → a ≡ aroundOf xs x → enclosedAt (a .home) xs ≡ enclosing xs x
 unfolding aroundOf
 home-encloses xs x a around = ap (λ (b : Around). enclosedAt (b .home) xs) around ∙ enclosed-is xs x
+
+-- the enclosing spaces visited, as what is around tells them
+pub visited-around : (xs : List Space) (x : Space) (a : Around) → a ≡ aroundOf xs x → a .levels ≡ visited xs x
+unfolding aroundOf
+visited-around xs x a around = ap (λ (b : Around). b .levels) around
 
 module _ (L : Hundredths) (xs : List Space) (x : Space) where
   same-unhoused : (isRoom x && not (isSome (enclosing xs x))) ≡ unhoused xs x

@@ -1,11 +1,10 @@
 -- A tank judged by what is around it and by its U is judged as the definition has it.
 use Prim.Native.Nat.{ℕ}
-use mathlib.Core.Path.{_≡_, refl, sym, ap, _∙_}
-use mathlib.Core.Bool.{Bool, not, _&&_, _||_}
+use mathlib.Core.Path.{_≡_, refl, ap, _∙_}
+use mathlib.Core.Bool.{not, _&&_, _||_}
 use mathlib.Core.List.{List, [], _∷_}
 use mathlib.Core.Option.{Option, none, some}
 use native.Mathlib.Omega.{arith}
-use borrow.Author.Tests.{ne-eqb}
 use lib.Dec.{eqb}
 use Rattle.measure.specs.Refusals.{firstOf}
 use Rattle.measure.specs.declared.units.Hundredths.{Hundredths}
@@ -28,7 +27,7 @@ module _ (L : Hundredths) (xs : List Space) (x : Space) (f : Hundredths) (r : Se
   o = searched (r .found)
 
   -- as the code has it: the number of the tests of 4 to 10, by the space that encloses
-  abbrev pub numberBy : ℕ
+  abbrev numberBy : ℕ
   numberBy =
       judgedNumber x o (r .around)
       (misplacedBy x o || inNoUnderDeck o)
@@ -36,7 +35,7 @@ module _ (L : Hundredths) (xs : List Space) (x : Space) (f : Hundredths) (r : Se
       (r .full)
 
   -- then 29
-  number-is : firstOf ((not (eqb numberBy 0), numberBy) ∷ (withoutM o, 29) ∷ []) ≡ tankNumber L xs x f
+  pub number-is : firstOf ((not (eqb numberBy 0), numberBy) ∷ (withoutM o, 29) ∷ []) ≡ tankNumber L xs x f
   unfolding tankNumber
   number-is =
       let e = is .found-is in
@@ -45,9 +44,3 @@ module _ (L : Hundredths) (xs : List Space) (x : Space) (f : Hundredths) (r : Se
       ap (λ (n : ℕ). firstOf ((not (eqb n 0), n) ∷ (withoutM o, 29) ∷ [])) (judged-is L xs x o (r .around) (r .full) e (is .around-is) (is .full-is) wrong over)
       ∙ spliced (testsOf xs x wrong over) ((withoutM o, 29) ∷ []) (omega arith)
       ∙ rw (misplaced-is L xs x o (r .around) (r .full) e (is .around-is) (is .full-is), overfull-is L xs x o (r .around) (r .full) e (is .around-is) (is .full-is), e)
-
-  pub number-given : (n : ℕ) → n ≡ numberBy → (n ≡ 0 → ⊥) → n ≡ tankNumber L xs x f
-  number-given n e refused = e ∙ rw (ne-eqb numberBy 0 (rw e at refused)) at number-is
-
-  pub number-after : (n : ℕ) → n ≡ numberBy → n ≡ 0 → (w : Bool) → w ≡ withoutM o → firstOf ((w, 29) ∷ []) ≡ tankNumber L xs x f
-  number-after n e zero w m = ap (λ (t : Bool). firstOf ((t, 29) ∷ [])) m ∙ rw (sym e ∙ zero) at number-is

@@ -5,7 +5,8 @@ use native.Mathlib.Omega.{arith}
 use lib.Dec.{leb}
 use lib.ListN.{length, take}
 use Rattle.spaces.proofs.laws.Row.{used-is}
-use Rattle.standard.proofs.laws.Judged.{home-encloses, enclosed-by}
+use Rattle.spaces.proofs.laws.Enclosure.{visited-at-most}
+use Rattle.standard.proofs.laws.Judged.{home-encloses, enclosed-by, visited-around}
 use borrow.Author.Needs.{needs}
 use Rattle.standard.proofs.rules.see.Statement.{statement}
 use Rattle.standard.proofs.rules.see.Tie as tie
@@ -31,9 +32,18 @@ array-copy-out-z c = search needs
 found-if-requires : tie.Need-found-if-requires
 found-if-requires c κs = search needs
 
+-- at most 8
+cast-t18 : tie.Need-cast-t18
+cast-t18 c =
+    let met = c .before .before .before .before in
+    let a = met .before .before .args in
+    let xs = take (a .count) (a .t1) in
+    omega (arith, visited-around xs (a .x) (met .around-space .result) (met .around-space .ensures), visited-at-most xs (a .x))
+
 returns : tie.Need-returns
 returns c =
-    let low = c .before .before in
+    let there = c .before in
+    let low = there .before .before in
     let met = low .before in
     let u = met .before in
     let a = u .before .args in
@@ -42,11 +52,12 @@ returns c =
     let all = u .used .ensures ∙ used-is (a .t1) (a .count) full in
     let around = met .around-space .result in
     record {
-      found-is = c .found-if .ensures
+      found-is = there .found-if .ensures
           ∙ enclosed-by (a .t1) (a .count) (around .home) (low .lesser .result) (u .used .result) all
           (λ below. low .lesser .ensures ∙ min-eq-left (omega (arith, u .used .ensures, min-le-right (a .count) 200)))
           ∙ home-encloses xs (a .x) around (met .around-space .ensures);
       around-is = met .around-space .ensures;
+      visited-is = visited-around xs (a .x) around (met .around-space .ensures);
       full-is = ap (leb 200) all;
     }
 
@@ -61,4 +72,5 @@ see-spec =
     mul-z
     array-copy-out-z
     found-if-requires
+    cast-t18
     returns)

@@ -9,7 +9,7 @@ none-requires : tie.Need-none-requires
 none-requires c κs = search needs
 
 returns : tie.Need-returns
-returns c = ap (λ (r : Roundings). record { number = c .before .args .number; roundings = r; sheet = c .before .args .sheet }) (c .none .ensures)
+returns c = ap (λ (r : Roundings). record { number = c .before .args .number; roundings = r; visited = c .before .args .visited; sheet = c .before .args .sheet }) (c .none .ensures)
 
 pub refused-spec : {M : Type 1} → statement M
 refused-spec = tie.close (tie.spec none-requires returns)

@@ -1,10 +1,11 @@
--- `Sheet::enter` meets its contract: the tests of 1 to 10 and 19, the entry made and noted, and its roundings passed on.
+-- `Sheet::enter` meets its contract: the tests of 1 to 10 and 19, the entry made and noted, its roundings passed on, and the enclosing
+-- spaces visited.
 use mathlib.Core.Path.{_≡_, sym, ap, ap₂, _∙_}
-use mathlib.Core.Bool.{Bool, true, false, not}
+use mathlib.Core.Bool.{Bool, true, cond, not}
 use mathlib.Core.List.{List, [], _∷_, _++_}
 use Prim.Native.Nat.{ℕ}
 use native.Mathlib.Omega.{arith}
-use borrow.Author.Tests.{not-false, ne-eqb, eq-eqb}
+use borrow.Author.Tests.{not-false, ne-eqb, eqb-true}
 use lib.Dec.{eqb}
 use Rattle.measure.specs.Kinds.{kindOf}
 use Rattle.measure.specs.Refusals.{firstOf}
@@ -18,16 +19,18 @@ use Rattle.measure.specs.declared.roundings.Roundings.{Roundings}
 use Rattle.measure.proofs.laws.Tests.{holds, fails}
 use Rattle.measure.proofs.laws.Refusals.{spliced}
 use Rattle.measure.proofs.laws.Roundings.{measured-of, roundings-of}
-use Rattle.standard.specs.Rules.{entryTests, entryNumber}
+use Rattle.spaces.proofs.laws.Cases.{by-test}
+use Rattle.standard.specs.Rules.{entryTests, entryNumber, entryRuling}
+use Rattle.standard.specs.declared.rules.EntryRuling.{EntryRuling}
 use Rattle.spaces.specs.declared.space.Space.{Space}
 use Rattle.sheet.specs.Sheet.{standing, usable}
 use Rattle.sheet.specs.Ends.{pointedWithArea}
-use Rattle.sheet.specs.Calls.{answered, changed, entryOf, spaceOf, measuredFor, misstated, entered, entering, entryRefused}
+use Rattle.sheet.specs.Calls.{answered, changed, entryOf, spaceOf, measuredFor, misstated, entered, visitedFor, entering, entryRefused}
 use Rattle.sheet.specs.declared.changes.Change.the-variants.{Entered}
 use Rattle.sheet.specs.declared.sheet.Sheet.{Sheet}
 use Rattle.sheet.specs.declared.calls.Entering.{Entering}
 use Rattle.sheet.specs.declared.calls.Entry.{Entry}
-use Rattle.sheet.proofs.laws.Calls.{applies, passes, within, refused, answered-1, answered-2, accepted, fitted-open-places, places, open-places}
+use Rattle.sheet.proofs.laws.Calls.{passed, after-call, is-open, refused, answered-1, accepted, ruling-visits, fitted-open-places, places, open-places}
 use Rattle.sheet.proofs.laws.Ends.{by-its-ends}
 use borrow.Author.Needs.{needs}
 use Rattle.sheet.proofs.sheet.Sheet.enter.Statement.{statement}
@@ -40,69 +43,76 @@ module _ (s : Sheet) (e : Entry) (hs bs : List ℕ) where
   abbrev next : Sheet
   next = changed (Entered x) s
 
-  -- the tests from the one of a number on
+  -- the tests behind those of measuring, and behind that of 1
   abbrev from-4 : List (Bool × ℕ)
   from-4 = entryTests (s .length) (standing s) x ++ ((pointedWithArea e (endsOf hs bs), 19) ∷ [])
 
-  abbrev from-3 : List (Bool × ℕ)
-  from-3 = let n = measuredFor s e hs bs .number in (not (eqb n 0), n) ∷ from-4
+  abbrev from-2 : List (Bool × ℕ)
+  from-2 = let n = measuredFor s e hs bs .number in (misstated e, 2) ∷ (not (eqb n 0), n) ∷ from-4
 
-  abbrev told : ℕ
-  told = firstOf ((not (usable s), 1) ∷ (misstated e, 2) ∷ from-3)
+  -- those behind measuring as the code has them, where r is the number by the spaces that stand
+  abbrev ruledWith : ℕ → List (Bool × ℕ)
+  ruledWith r = (not (eqb r 0), r) ∷ (pointedWithArea e (endAreas (s .length) (e .length) hs bs), 19) ∷ []
 
   -- what is answered beside a change: of a refused one no rounding
-  refusing : {k : ℕ} {a : Entering} → (k ≡ 0 → ⊥) → record { number = k; sheet = s } ≡ entered s e hs bs → a ≡ entryRefused k s → a ≡ entering s e hs bs
+  refusing : {k v : ℕ} {a : Entering} → (k ≡ 0 → ⊥) → record { number = k; sheet = s } ≡ entered s e hs bs → v ≡ visitedFor s x
+      → a ≡ entryRefused k v s → a ≡ entering s e hs bs
   unfolding entering
-  refusing some change is = is ∙ simp (sym change, ne-eqb _ 0 some)
+  refusing some change walked is = is ∙ simp (sym change, ne-eqb _ 0 some, walked)
 
-  accepting : {r : Roundings} {after : Sheet} → record { number = 0; sheet = after } ≡ entered s e hs bs → r ≡ passedOn (kindOf (e .kind)) (s .length) (e .length) hs
-      → record { number = 0; roundings = r; sheet = after } ≡ entering s e hs bs
+  accepting : {r : Roundings} {v : ℕ} {after : Sheet} → record { number = 0; sheet = after } ≡ entered s e hs bs
+      → r ≡ passedOn (kindOf (e .kind)) (s .length) (e .length) hs → v ≡ visitedFor s x
+      → record { number = 0; roundings = r; visited = v; sheet = after } ≡ entering s e hs bs
   unfolding entering
-  accepting change passed = simp (sym change, passed)
+  accepting change rounded walked = simp (sym change, rounded, walked)
 
-  -- 1 and 2 by what is said are passed over, and measuring answered r
-  record Measuring (r : MeasuredOffsets) : Type 0 where
+  -- on an open sheet: measuring answered `offsets`, y is the record that is made of it, and the entry is judged
+  record Judging (offsets : MeasuredOffsets) (parts : ℕ) (y : Space) (ruling : EntryRuling) (k : ℕ) : Type 0 where
     on : usable s ≡ true
-    said : misstated e ≡ false
-    answered-is : r ≡ measuredOffsets (e .kind) (s .length) (e .length) hs bs
+    offsets-are : offsets ≡ measuredOffsets (e .kind) (s .length) (e .length) hs bs
+    m-is : parts ≡ mOf (kindOf (e .kind)) hs
+    made-of : y ≡ entryOf e parts (offsets .measured .tonnage)
+    ruled : ruling ≡ entryRuling (entryNumber (s .length) (standing s) y) (standing s) y
+    first : let n = offsets .measured .number in k ≡ firstOf ((misstated e, 2) ∷ (not (eqb n 0), n) ∷ ruledWith (ruling .number))
 
-  module _ {offsets : MeasuredOffsets} (m : Measuring offsets) where
-    abbrev r : Measured
-    r = offsets .measured
+  module _ {offsets : MeasuredOffsets} {parts : ℕ} {y : Space} {ruling : EntryRuling} {k : ℕ} (j : Judging offsets parts y ruling k) where
+    measuring : offsets .measured ≡ measuredFor s e hs bs
+    measuring = ap (λ (q : MeasuredOffsets). q .measured) (j .offsets-are) ∙ measured-of (e .kind) (s .length) (e .length) hs bs
 
-    is : r ≡ measuredFor s e hs bs
-    is = ap (λ (q : MeasuredOffsets). q .measured) (m .answered-is) ∙ measured-of (e .kind) (s .length) (e .length) hs bs
+    same : y ≡ x
+    same = j .made-of ∙ ap₂ (λ (i : ℕ) (q : Measured). entryOf e i (q .tonnage)) (j .m-is) measuring
 
-    number-is : r .number ≡ measuredFor s e hs bs .number
-    number-is = ap (λ (q : Measured). q .number) is
+    -- where its offsets are refused, nothing behind them is asked
+    from-measures : let n = measuredFor s e hs bs .number in
+        cond (not (eqb n 0)) n (firstOf (ruledWith (entryNumber (s .length) (standing s) x))) ≡ cond (not (eqb n 0)) n (firstOf from-4)
+    unfolding entryNumber
+    from-measures =
+        by-test (eqb (measuredFor s e hs bs .number) 0)
+        (λ t.
+        rw (t, by-its-ends e (s .length) hs bs (eqb-true _ 0 t))
+        (spliced (entryTests (s .length) (standing s) x) ((pointedWithArea e (endsOf hs bs), 19) ∷ []) (omega arith)))
+        (λ f. rw f)
 
-    passed : r .number ≡ 0 → offsets .roundings ≡ passedOn (kindOf (e .kind)) (s .length) (e .length) hs
-    passed none =
-        ap (λ (q : MeasuredOffsets). q .roundings) (m .answered-is)
-        ∙ roundings-of (e .kind) (s .length) (e .length) hs bs (sym number-is ∙ none)
+    number-is : k ≡ firstOf ((not (usable s), 1) ∷ from-2)
+    number-is =
+        j .first
+        ∙ rw (measuring, j .ruled, same) (ap (λ (i : ℕ). cond (misstated e) 2 i) from-measures)
+        ∙ sym (is-open s from-2 (j .on))
 
-    -- what is answered where that is a refusal
-    by-offsets : (r .number ≡ 0 → ⊥) → record { number = r .number; sheet = s } ≡ entered s e hs bs
+    change-is : answered k s (changed (Entered y) s) ≡ entered s e hs bs
     unfolding entered
-    by-offsets some =
-        let n = measuredFor s e hs bs .number in
-        let first = applies (not (eqb n 0)) n from-4 (ap not (ne-eqb n 0 (rw number-is at some))) in
-        refused (r .number) s next some ∙ ap (λ (k : ℕ). answered k s next) (number-is ∙ sym (within s (misstated e) from-3 (m .on) (m .said) ∙ first))
+    change-is = ap₂ (λ (i : ℕ) (z : Space). answered i s (changed (Entered z) s)) number-is same
 
-    -- else by the record that is made of it, the number of its entry, and its ends
-    by-record : r .number ≡ 0 → (depth-parts ruled k : ℕ) (y : Space) → depth-parts ≡ mOf (kindOf (e .kind)) hs → y ≡ entryOf e depth-parts (r .tonnage)
-        → ruled ≡ entryNumber (s .length) (standing s) y
-        → k ≡ firstOf ((not (eqb ruled 0), ruled) ∷ (pointedWithArea e (endAreas (s .length) (e .length) hs bs), 19) ∷ [])
-        → answered k s (changed (Entered y) s) ≡ entered s e hs bs
-    unfolding entered entryNumber
-    by-record none depth-parts ruled k y m-is made-of rules judged =
-        let n = measuredFor s e hs bs .number in
-        let taken : n ≡ 0 = sym number-is ∙ none in
-        let same : y ≡ x = made-of ∙ ap₂ (λ (i : ℕ) (q : Measured). entryOf e i (q .tonnage)) m-is is in
-        let past-3 = passes (not (eqb n 0)) n from-4 (ap not (eq-eqb n 0 taken)) in
-        let ends = by-its-ends e (s .length) hs bs taken in
-        let number = judged ∙ rw (rules, same, ends) (spliced (entryTests (s .length) (standing s) x) ((pointedWithArea e (endsOf hs bs), 19) ∷ []) (omega arith)) ∙ sym (within s (misstated e) from-3 (m .on) (m .said) ∙ past-3) in
-        ap₂ (λ (i : ℕ) (z : Space). answered i s (changed (Entered z) s)) number same
+    visited-is : ruling .visited ≡ visitedFor s x
+    visited-is = ruling-visits s (j .on) (j .ruled) same
+
+    -- none of its numbers is given, so none by its offsets
+    passed-on : k ≡ 0 → offsets .roundings ≡ passedOn (kindOf (e .kind)) (s .length) (e .length) hs
+    passed-on none =
+        let n = offsets .measured .number in
+        let from-3 = passed (misstated e) 2 ((not (eqb n 0), n) ∷ ruledWith (ruling .number)) (sym (j .first) ∙ none) (λ z. omega arith) .1 in
+        let taken = sym (ap (λ (q : Measured). q .number) measuring) ∙ after-call n (ruledWith (ruling .number)) from-3 .0 in
+        ap (λ (q : MeasuredOffsets). q .roundings) (j .offsets-are) ∙ roundings-of (e .kind) (s .length) (e .length) hs bs taken
 
 usable-requires : tie.Need-usable-requires
 usable-requires c κs = search needs
@@ -117,56 +127,14 @@ returns c =
     let a = one .before .before .before .before .args in
     let hs = a .heights .now in
     let bs = a .breadths .now in
+    let off = fails (one .before .usable .ensures .usable-is) (one .if1 .taken) in
     refusing (a .self) (a .entry) hs bs (omega arith)
-    (answered-1 (a .self) (next (a .self) (a .entry) hs bs) ((misstated (a .entry), 2) ∷ from-3 (a .self) (a .entry) hs bs)
-    (fails (one .before .usable .ensures .usable-is) (one .if1 .taken)))
+    (answered-1 (a .self) (next (a .self) (a .entry) hs bs) (from-2 (a .self) (a .entry) hs bs) off)
+    (rw off)
     (c .refused .ensures)
-
-misstated-requires : tie.Need-misstated-requires
-misstated-requires c κs = search needs
-
-refused-requires-2 : tie.Need-refused-requires-2
-refused-requires-2 c κs = search needs
-
-returns-2 : tie.Need-returns-2
-unfolding entered
-returns-2 c =
-    let two = c .before in
-    let one = two .before .before in
-    let a = one .before .before .before .before .args in
-    let hs = a .heights .now in
-    let bs = a .breadths .now in
-    refusing (a .self) (a .entry) hs bs (omega arith)
-    (answered-2 (a .self) (next (a .self) (a .entry) hs bs) (misstated (a .entry)) (from-3 (a .self) (a .entry) hs bs)
-    (holds (one .before .usable .ensures .usable-is) (one .if1 .left))
-    (sym (two .before .misstated .ensures) ∙ two .if2 .taken))
-    (c .refused2 .ensures)
 
 measure-offsets-requires : tie.Need-measure-offsets-requires
 measure-offsets-requires c κs = search needs
-
-measuring : (q : tie.After-measure-offsets)
-    → (let a = q .before .before .before .before .before .before .before .before .args in Measuring (a .self) (a .entry) (a .heights .now) (a .breadths .now) (q .measure-offsets .result))
-measuring q =
-    let two = q .before .before in
-    let one = two .before .before in
-    record {
-      on = holds (one .before .usable .ensures .usable-is) (one .if1 .left);
-      said = sym (two .before .misstated .ensures) ∙ two .if2 .left;
-      answered-is = q .measure-offsets .ensures;
-    }
-
-refused-requires-3 : tie.Need-refused-requires-3
-refused-requires-3 c κs = search needs
-
-returns-3 : tie.Need-returns-3
-returns-3 c =
-    let three = c .before in
-    let q = three .before .before .before in
-    let a = q .before .before .before .before .before .before .before .before .args in
-    refusing (a .self) (a .entry) (a .heights .now) (a .breadths .now) (three .if3 .taken)
-    (by-offsets (a .self) (a .entry) (a .heights .now) (a .breadths .now) (measuring q) (three .if3 .taken))
-    (c .refused3 .ensures)
 
 kind-of-requires : tie.Need-kind-of-requires
 kind-of-requires c κs = search needs
@@ -177,70 +145,71 @@ m-of-requires c κs = search needs
 space-requires : tie.Need-space-requires
 space-requires c κs = search needs
 
-entry-number-requires : tie.Need-entry-number-requires
-entry-number-requires c κs = search needs
+entry-ruling-requires : tie.Need-entry-ruling-requires
+entry-ruling-requires c κs = search needs
 
-judged-by-ends-requires : tie.Need-judged-by-ends-requires
-judged-by-ends-requires c κs = search needs
+judged-requires : tie.Need-judged-requires
+judged-requires c κs = search needs
 
--- what the number of the entry says
-judged : (n : tie.After-judged-by-ends)
-    → (let y = n .before .before .before in
-    let a = y .before .before .before .before .before .before .before .before .before .before .before .before .before .before .args in
-    let sh = a .self in
-    answered (n .judged-by-ends .result) sh (changed (Entered (y .space .result)) sh) ≡ entered sh (a .entry) (a .heights .now) (a .breadths .now))
-judged n =
-    let y = n .before .before .before in
+judging : (n : tie.After-judged)
+    → (let ruling = n .before in
+    let y = ruling .before .before in
     let m = y .before in
-    let three = m .before .before in
-    let q = three .before .before .before in
-    let a = q .before .before .before .before .before .before .before .before .args in
-    let hs = a .heights .now in
-    by-record (a .self) (a .entry) hs (a .breadths .now) (measuring q) (three .if3 .left) (m .m-of .result) (n .before .entry-number .result) (n .judged-by-ends .result) (y .space .result)
-    (m .m-of .ensures ∙ ap (λ (k : Kind). mOf k hs) (m .before .kind-of .ensures))
-    (y .space .ensures)
-    (n .before .entry-number .ensures)
-    (n .judged-by-ends .ensures)
+    let q = m .before .before .before in
+    let a = q .before .before .before .before .before .before .args in
+    Judging (a .self) (a .entry) (a .heights .now) (a .breadths .now) (q .measure-offsets .result) (m .m-of .result) (y .space .result) (ruling .entry-ruling .result) (n .judged .result))
+judging n =
+    let ruling = n .before in
+    let y = ruling .before .before in
+    let m = y .before in
+    let q = m .before .before .before in
+    let one = q .before .before in
+    let a = one .before .before .before .before .args in
+    record {
+      on = holds (one .before .usable .ensures .usable-is) (one .if1 .left);
+      offsets-are = q .measure-offsets .ensures;
+      m-is = m .m-of .ensures ∙ ap (λ (k : Kind). mOf k (a .heights .now)) (m .before .kind-of .ensures);
+      made-of = y .space .ensures;
+      ruled = ruling .entry-ruling .ensures;
+      first = n .judged .ensures;
+    }
 
-refused-requires-4 : tie.Need-refused-requires-4
-refused-requires-4 c κs = search needs
+refused-requires-2 : tie.Need-refused-requires-2
+refused-requires-2 c κs = search needs
 
-returns-4 : tie.Need-returns-4
-returns-4 c =
+returns-2 : tie.Need-returns-2
+returns-2 c =
     let n = c .before .before in
     let y = n .before .before .before in
-    let a = y .before .before .before .before .before .before .before .before .before .before .before .before .before .before .args in
-    let sh = a .self in
-    refusing sh (a .entry) (a .heights .now) (a .breadths .now) (c .before .if4 .taken)
-    (refused (n .judged-by-ends .result) sh (changed (Entered (y .space .result)) sh) (c .before .if4 .taken) ∙ judged n)
-    (c .refused4 .ensures)
+    let a = y .before .before .before .before .before .before .before .before .before .before .args in
+    let j = judging n in
+    refusing (a .self) (a .entry) (a .heights .now) (a .breadths .now) (c .before .if2 .taken)
+    (refused (n .judged .result) (a .self) (changed (Entered (y .space .result)) (a .self)) (c .before .if2 .taken) ∙ change-is (a .self) (a .entry) (a .heights .now) (a .breadths .now) j)
+    (visited-is (a .self) (a .entry) (a .heights .now) (a .breadths .now) j)
+    (c .refused2 .ensures)
 
 made-requires : tie.Need-made-requires
 made-requires c κs =
-    let one = c .before .before .before .before .before .before .before .before .before .before .before .before .before .before .before in
+    let one = c .before .before .before .before .before .before .before .before .before .before .before in
     places (one .before .usable .ensures) (not-false _ (one .if1 .left))
 
 noted-requires : tie.Need-noted-requires
 noted-requires c κs =
-    let one = c .before .before .before .before .before .before .before .before .before .before .before .before .before .before .before .before in
+    let one = c .before .before .before .before .before .before .before .before .before .before .before .before in
     rw (c .made .ensures) (fitted-open-places _ _ (open-places (one .before .usable .ensures) (not-false _ (one .if1 .left))))
 
-returns-5 : tie.Need-returns-5
-returns-5 c =
-    let four = c .before .before .before in
-    let n = four .before in
+returns-3 : tie.Need-returns-3
+returns-3 c =
+    let two = c .before .before .before in
+    let n = two .before in
     let y = n .before .before .before in
-    let three = y .before .before .before in
-    let q = three .before .before .before in
-    let a = q .before .before .before .before .before .before .before .before .args in
-    let sh = a .self in
-    accepting sh (a .entry) (a .heights .now) (a .breadths .now)
-    (accepted (n .judged-by-ends .result) sh (Entered (y .space .result)) (c .before .made .result) (c .noted .result)
-    (four .if4 .left)
-    (c .before .made .ensures)
-    (c .noted .ensures)
-    ∙ judged n)
-    (passed sh (a .entry) (a .heights .now) (a .breadths .now) (measuring q) (three .if3 .left))
+    let a = y .before .before .before .before .before .before .before .before .before .before .args in
+    let j = judging n in
+    accepting (a .self) (a .entry) (a .heights .now) (a .breadths .now)
+    (accepted (n .judged .result) (a .self) (Entered (y .space .result)) (c .before .made .result) (c .noted .result) (two .if2 .left) (c .before .made .ensures) (c .noted .ensures)
+    ∙ change-is (a .self) (a .entry) (a .heights .now) (a .breadths .now) j)
+    (passed-on (a .self) (a .entry) (a .heights .now) (a .breadths .now) j (two .if2 .left))
+    (visited-is (a .self) (a .entry) (a .heights .now) (a .breadths .now) j)
 
 pub enter-spec : {M : Type 1} → statement M
 enter-spec =
@@ -249,19 +218,14 @@ enter-spec =
     usable-requires
     refused-requires
     returns
-    misstated-requires
-    refused-requires-2
-    returns-2
     measure-offsets-requires
-    refused-requires-3
-    returns-3
     kind-of-requires
     m-of-requires
     space-requires
-    entry-number-requires
-    judged-by-ends-requires
-    refused-requires-4
-    returns-4
+    entry-ruling-requires
+    judged-requires
+    refused-requires-2
+    returns-2
     made-requires
     noted-requires
-    returns-5)
+    returns-3)
