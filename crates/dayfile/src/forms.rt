@@ -4,7 +4,7 @@ ghost use Rattle.std.specs.Prelude.{◌≡◌};
 ghost use Rattle.dayfile.specs.Forms.{is_form, form_of, form_told, greatest_in, lost as lost_in};
 
 // A form: the widths of the fields in which forms differ, and the byte of the trailer that tells it.
-#[derive(Drop)]
+#[derive(Clone, Copy)]
 pub struct Form {
     // Of a record's deck.
     pub(crate) deck: u8,

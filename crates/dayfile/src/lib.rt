@@ -3,6 +3,8 @@
 //
 // No public function asks anything of its caller; each takes any numbers and any bytes, ends, and answers what its
 // definition in specs/ says, of every byte of a lent buffer too.
+#![tactic(auto)]
+
 mod fields;
 mod forms;
 mod moving;

@@ -9,7 +9,7 @@ use measure::refusals::OUTSIDE_ITS_RANGE;
 
 // The paper's number, 0 where accepted, the bytes written, and the position of the record where the number is 17.
 #[repr(C)]
-#[derive(Drop)]
+#[derive(Clone, Copy)]
 pub struct Moved {
     pub number: u8,
     pub bytes: usize,

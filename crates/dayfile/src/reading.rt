@@ -14,7 +14,7 @@ use sheet::Sheet;
 // The paper's number, 0 where accepted, and the position of the record where it is 17; then the sheet, its justified mark,
 // where it starts, and the form it has there, 1 or 2.
 #[repr(C)]
-#[derive(Drop)]
+#[derive(Clone, Copy)]
 pub struct Reading {
     pub number: u8,
     pub position: usize,

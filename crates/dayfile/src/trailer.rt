@@ -29,7 +29,7 @@ const GREATEST: [u64; 7] = [
 ];
 
 // What a trailer says of its sheet; the form by its number.
-#[derive(Drop)]
+#[derive(Clone, Copy)]
 pub(crate) struct Trailer {
     pub(crate) count: usize,
     pub(crate) justified: u8,

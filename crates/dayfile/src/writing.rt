@@ -15,7 +15,7 @@ use spaces::space::Space;
 
 // The paper's number, 0 where accepted, the bytes written, and the sheet as it came.
 #[repr(C)]
-#[derive(Drop)]
+#[derive(Clone, Copy)]
 pub struct Written {
     pub number: u8,
     pub bytes: usize,
@@ -36,7 +36,7 @@ pub fn write(sheet: Sheet, justified: u8, form: u8, buf: &mut [u8], at: usize) -
 }
 
 // What a write answers beside the sheet, which isn't copied into each answer, and a move beside the position.
-#[derive(Drop)]
+#[derive(Clone, Copy)]
 pub struct Stored {
     pub number: u8,
     pub bytes: usize,

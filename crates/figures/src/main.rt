@@ -6,6 +6,8 @@
 //   ballast BALLAST GROSS                               answers   1 where over 30%, else 0
 //
 // Words, numbers and lists are those of `survey`, and so are the remarks on a line that is none of these.
+#![tactic(auto)]
+
 use libc::{STDIN_FILENO, STDOUT_FILENO};
 use measure::units::Hundredths;
 use script::calls::Line;

@@ -2,6 +2,8 @@
 // one promises. include/fummidrake.h declares them, with a sentence for each.
 //
 // A slice is a pointer and a length there. No function asks anything of its caller but that the two belong together.
+#![tactic(auto)]
+
 ghost use Rattle.std.specs.Prelude.{◌≡◌, length};
 ghost use Rattle.measure.specs.Kinds.{kind_of};
 ghost use Rattle.measure.specs.Volumes.{hundredths};

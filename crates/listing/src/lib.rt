@@ -2,6 +2,8 @@
 //
 // The one public function asks nothing of its caller: it takes any bytes, ends, and answers every byte as its definition in
 // specs/ says.
+#![tactic(auto)]
+
 mod lines;
 mod listing;
 mod text;

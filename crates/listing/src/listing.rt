@@ -13,7 +13,7 @@ const MOST_BYTES: usize = 65_536;
 
 // The text is the first `size` bytes; zeros follow.
 #[repr(C)]
-#[derive(Drop)]
+#[derive(Clone, Copy)]
 pub struct Listing {
     pub text: [u8; 8192],
     pub size: usize,

@@ -9,7 +9,7 @@ use crate::units::Hundredths;
 use crate::volumes::section_areas;
 
 // In products of a breadth and a third interval of depth.
-#[derive(Drop)]
+#[derive(Clone, Copy)]
 pub struct EndAreas {
     pub fore: u32,
     pub aft: u32,

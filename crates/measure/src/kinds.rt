@@ -13,7 +13,7 @@ pub const HATCHWAY: u8 = 4;
 
 pub const ROOM: u8 = 5;
 
-#[derive(Drop)]
+#[derive(Clone, Copy)]
 pub enum Kind {
     UnderDeck,
     BetweenDeck,
@@ -25,6 +25,7 @@ pub enum Kind {
 }
 
 // The kind that a code stands for.
+#[tactic(auto, unfolding(crate::specs::Kinds::kind_of))]
 pub fn kind_of(code: u8) -> Kind
     ensures { result ≡ kind_of code }
 {

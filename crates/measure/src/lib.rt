@@ -3,6 +3,8 @@
 //
 // No public function asks anything of its caller: each takes any numbers and any lists, ends, and answers what its
 // definition in specs/ says. Only the functions inside the crate have a `requires`.
+#![tactic(auto)]
+
 pub mod allowances;
 pub mod ends;
 pub mod kinds;

@@ -17,14 +17,14 @@ use crate::units::Hundredths;
 use crate::volumes::{box_tons, level_tons, under_deck_tons};
 
 // The paper's number, 0 where accepted, and the tonnage in hundredths of a ton, 0 where refused.
-#[derive(Drop)]
+#[derive(Clone, Copy)]
 pub struct Measured {
     pub number: u8,
     pub tonnage: u32,
 }
 
 // The same with what the rounding did: of accepted offsets alone, else 0 each.
-#[derive(Drop)]
+#[derive(Clone, Copy)]
 pub struct MeasuredOffsets {
     pub measured: Measured,
     pub roundings: Roundings,

@@ -29,6 +29,7 @@ pub(crate) fn by_table(length: Hundredths) -> usize
 }
 
 // A part made by a step, 69.109(m)(1).
+#[tactic(auto, unfolding(crate::specs::Parts::step_parts))]
 pub(crate) fn of_step_part(length: Hundredths) -> usize
     ensures { result ≡ step_parts length }
 {

@@ -6,7 +6,7 @@ use crate::kinds::Kind;
 use crate::units::Hundredths;
 
 // From the least to the most, both included.
-#[derive(Drop)]
+#[derive(Clone, Copy)]
 pub struct Range {
     pub least: u32,
     pub most: u32,

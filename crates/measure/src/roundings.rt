@@ -9,7 +9,7 @@ use crate::units::Hundredths;
 // hundredth: above zero when rounded up, zero when exact, else below. The depths are those at a U's stations, at most
 // 17, from the bow; 0 in every other place.
 #[repr(C)]
-#[derive(Drop)]
+#[derive(Clone, Copy)]
 pub struct Roundings {
     pub length: i8,
     pub depths: [i8; 17],

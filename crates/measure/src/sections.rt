@@ -9,7 +9,7 @@ use crate::parts::{nearest_parts, of_under_deck};
 use crate::units::{Hundredths, wide};
 
 // How a tank lies along its U.
-#[derive(Drop)]
+#[derive(Clone, Copy)]
 pub struct Layout {
     // The parts and the length of the U.
     pub n: usize,
@@ -22,7 +22,7 @@ pub struct Layout {
 
 // How a tank station lies among the zones: the number, from 1, of the under_deck station in whose zone it is, of two the fore one, and
 // whether it falls exactly between two.
-#[derive(Drop)]
+#[derive(Clone, Copy)]
 pub(crate) struct Zoned {
     pub(crate) zone: usize,
     pub(crate) between: bool,

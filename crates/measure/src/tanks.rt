@@ -18,7 +18,7 @@ use crate::volumes::{section_areas, tons_over};
 
 // Where a tank is measured: the paper's number, 0 where accepted, its parts, and how many sections it asks; 0 and 0 where refused.
 #[repr(C)]
-#[derive(Drop)]
+#[derive(Clone, Copy)]
 pub struct LaidOut {
     pub number: u8,
     pub parts: usize,

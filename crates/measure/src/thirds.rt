@@ -9,7 +9,7 @@ use crate::rounding::{nearest, rounding};
 use crate::units::{Hundredths, Thousandths, wide};
 
 // A length divided: the number of parts, the third interval, and its rounding, in parts of 1 / (3 n) of its thousandth.
-#[derive(Drop)]
+#[derive(Clone, Copy)]
 pub struct Division {
     pub parts: usize,
     pub third: Thousandths,

@@ -4,11 +4,11 @@ ghost use Rattle.std.specs.Prelude.{◌≡◌, ◌<◌, ◌^◌};
 
 // A length, breadth, depth or height, or a third interval of a depth, in hundredths of a foot (69.109(h)(4)(ii)).
 #[repr(C)]
-#[derive(Drop)]
+#[derive(Clone, Copy)]
 pub struct Hundredths(pub u32);
 
 // A third interval of a length, in thousandths of a foot (69.109(g)(2)): ten times a length, so twice as wide.
-#[derive(Drop)]
+#[derive(Clone, Copy)]
 pub struct Thousandths(pub u64);
 
 // A measure, widened for the sums and products.

@@ -10,7 +10,7 @@ use crate::words::Number;
 use crate::{hex, words};
 
 // What a line is: passed over, a call by the place of its form from 0, or no call.
-#[derive(Drop)]
+#[derive(Clone, Copy)]
 pub enum Line {
     Passed,
     Call(usize),
@@ -18,7 +18,7 @@ pub enum Line {
 }
 
 // The words behind a call, or one of them.
-#[derive(Drop)]
+#[derive(Clone, Copy)]
 pub enum Judged {
     Fits,
     NoCall(Remark),

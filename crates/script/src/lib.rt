@@ -3,6 +3,8 @@
 //
 // No public function asks anything of its caller: each takes any bytes, ends, and answers what its definition in specs/
 // says, and so does every place of a lent array afterwards. Only functions inside the crate have a `requires`.
+#![tactic(auto)]
+
 pub mod calls;
 pub mod hex;
 pub mod remarks;

@@ -5,7 +5,7 @@ ghost use Rattle.script.specs.Remarks.{remark_text, remark_place};
 
 use crate::words;
 
-#[derive(Drop)]
+#[derive(Clone, Copy)]
 pub enum Remark {
     UnknownCall,
     WrongNumberOfWords,

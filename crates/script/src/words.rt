@@ -7,7 +7,7 @@ ghost use Rattle.script.specs.Words.{is_decimal, is_letter, is_digit, all_digits
 ghost use Rattle.script.specs.Words.{id_of, code_of, measure_of, size_of, is_empty_list, measures_of};
 
 // A word as a number: one or more digits, zeros in front too, with a value from 0 to 2^64-1.
-#[derive(Drop)]
+#[derive(Clone, Copy)]
 pub enum Number {
     Value(u64),
     NotANumber,

@@ -23,7 +23,7 @@ use standard::standings::GREATEST_STANDING;
 
 // What is entered: the enclosing id is looked at only of a room, and the ends only of a U: 1 inner (at a step), 2 upright, 3 pointed.
 #[repr(C)]
-#[derive(Drop)]
+#[derive(Clone, Copy)]
 pub struct Entry {
     pub id: u16,
     pub within: u16,
@@ -36,7 +36,7 @@ pub struct Entry {
 }
 
 #[repr(C)]
-#[derive(Drop)]
+#[derive(Clone, Copy)]
 pub struct Changed {
     pub number: u8,
     pub sheet: Sheet,
@@ -45,7 +45,7 @@ pub struct Changed {
 // What entering answers: with the change the roundings that an accepted space passes on, 0 each where refused; and, refused or not,
 // how many enclosing spaces were visited, 0 of a kind that is no room and on a sheet not open.
 #[repr(C)]
-#[derive(Drop)]
+#[derive(Clone, Copy)]
 pub struct Entering {
     pub number: u8,
     pub roundings: Roundings,
@@ -54,7 +54,7 @@ pub struct Entering {
 }
 
 #[repr(C)]
-#[derive(Drop)]
+#[derive(Clone, Copy)]
 pub struct Counted {
     pub undoable: usize,
     pub redoable: usize,
@@ -63,7 +63,7 @@ pub struct Counted {
 
 // Gross and net in hundredths of a ton, 0 and 0 where refused.
 #[repr(C)]
-#[derive(Drop)]
+#[derive(Clone, Copy)]
 pub struct Reported {
     pub number: u8,
     pub gross: u64,
@@ -72,7 +72,7 @@ pub struct Reported {
 }
 
 // What a report tells, the paper's number first.
-#[derive(Drop)]
+#[derive(Clone, Copy)]
 pub struct Figures {
     pub number: u8,
     pub gross: u64,

@@ -9,7 +9,7 @@ use crate::sheet::Sheet;
 use spaces::row::{PLACES, lesser};
 use spaces::space::{Space, empty};
 
-#[derive(Drop)]
+#[derive(Clone, Copy)]
 pub enum Change {
     Entered(Space),
     // The place, from 0, and what stood there.
@@ -20,7 +20,7 @@ pub enum Change {
 
 // A change as a sheet keeps it, in numbers: an enum can't be handed to C.
 #[repr(C)]
-#[derive(Drop)]
+#[derive(Clone, Copy)]
 pub struct OpenChange {
     // Which change it is: 0 an entry, 1 a withdrawal, 2 a mark.
     pub made: u8,

@@ -3,6 +3,8 @@
 //
 // No public function asks anything of its caller; each takes any numbers and any sheet, ends, and answers what its
 // definition in specs/ says. A sheet that no call handed back is answered as one not open, or within its own places.
+#![tactic(auto)]
+
 mod calls;
 mod changes;
 mod ends;

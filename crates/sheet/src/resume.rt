@@ -16,7 +16,7 @@ use standard::records::first_refused;
 
 // The number with which a record was refused and its position from 1; 0 and 0 where none was. The tonnage length outside
 // its range is 2 with the position 0.
-#[derive(Drop)]
+#[derive(Clone, Copy)]
 pub struct Resumed {
     pub number: u8,
     pub position: usize,

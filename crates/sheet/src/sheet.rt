@@ -9,7 +9,7 @@ use measure::units::Hundredths;
 use spaces::space::{Space, empty};
 
 #[repr(C)]
-#[derive(Drop)]
+#[derive(Clone, Copy)]
 pub struct Sheet {
     // 1 where the sheet is open.
     pub(crate) opened: u8,

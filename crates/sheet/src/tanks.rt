@@ -17,7 +17,7 @@ use standard::tanks::{tank_ruling, under_deck_with};
 
 // A tank to be entered: `within` is the id of its U, `fore` the distance of its fore end along that.
 #[repr(C)]
-#[derive(Drop)]
+#[derive(Clone, Copy)]
 pub struct Tank {
     pub id: u16,
     pub within: u16,
@@ -29,7 +29,7 @@ pub struct Tank {
 
 // What entering a tank answers: with the change how many enclosing spaces were visited, refused or not; 0 on a sheet not open.
 #[repr(C)]
-#[derive(Drop)]
+#[derive(Clone, Copy)]
 pub struct TankEntering {
     pub number: u8,
     pub visited: u8,

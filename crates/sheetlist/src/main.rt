@@ -1,5 +1,7 @@
 // The last sheet of a day's file as a list, or how the file is refused: standard input to standard output. What it prints
 // is `listing::list`'s text, which is proved; that it reads and writes it is tested.
+#![tactic(auto)]
+
 ghost use Rattle.std.specs.Prelude.{◌≡◌, length};
 
 use libc::{STDIN_FILENO, STDOUT_FILENO};

@@ -10,7 +10,7 @@ use crate::space::Space;
 use crate::sums::{Amount, share, sum};
 use measure::kinds::ROOM;
 
-#[derive(Drop)]
+#[derive(Clone, Copy)]
 pub struct Around {
     // Its id stands already.
     pub taken: bool,

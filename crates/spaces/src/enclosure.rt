@@ -12,7 +12,7 @@ use crate::sums::{Amount, sum};
 use measure::kinds::ROOM;
 
 // What a walk upward met: how many spaces, and whether all are plain.
-#[derive(Drop)]
+#[derive(Clone, Copy)]
 pub struct Above {
     pub levels: usize,
     pub plain: bool,

@@ -7,7 +7,7 @@ use crate::space::Space;
 use measure::kinds::ROOM;
 
 // The spaces' numbers that a search or a walk looks at, each in a row of its own.
-#[derive(Drop)]
+#[derive(Clone, Copy)]
 pub struct Rows {
     pub ids: [u16; 200],
     pub withins: [u16; 200],

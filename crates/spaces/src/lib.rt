@@ -3,6 +3,8 @@
 //
 // The spaces that stand are the first `count` of 200 places, in order of entry; what lies in a free place is never
 // looked at, and a count over 200 is all of them. No public function asks anything of its caller.
+#![tactic(auto)]
+
 pub mod around;
 pub mod enclosure;
 mod index;

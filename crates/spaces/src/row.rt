@@ -8,7 +8,7 @@ use crate::space::Space;
 pub const PLACES: usize = 200;
 
 // The space with an id, if it stands.
-#[derive(Drop)]
+#[derive(Clone, Copy)]
 pub enum Found {
     At(Space),
     Nothing,

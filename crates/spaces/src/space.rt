@@ -5,7 +5,7 @@ ghost use Rattle.spaces.specs.Space.{empty_space};
 use measure::units::Hundredths;
 
 #[repr(C)]
-#[derive(Drop)]
+#[derive(Clone, Copy)]
 pub struct Space {
     pub id: u16,
     // The enclosing id, 0 for a U, B, S or H.

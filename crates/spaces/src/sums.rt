@@ -8,7 +8,7 @@ use crate::row::used;
 use crate::space::Space;
 use measure::kinds::{BETWEEN_DECK, HATCHWAY, ROOM, SUPERSTRUCTURE, UNDER_DECK};
 
-#[derive(Drop)]
+#[derive(Clone, Copy)]
 pub enum Amount {
     // The tonnages of the rooms directly inside the space with an id, and their number.
     Inside(u16),
@@ -25,7 +25,7 @@ pub enum Amount {
 }
 
 // The sums that a report works with.
-#[derive(Drop)]
+#[derive(Clone, Copy)]
 pub struct Totals {
     pub lengths: u64,
     pub hull: u64,

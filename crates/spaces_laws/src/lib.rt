@@ -2,3 +2,4 @@
 // taken off twice (proofs/); levels, standings, gross, the water ballast and the deduction for machinery said without the
 // computing (specs/). There is no code here: a crate of its own, so that a check of the code does not pay for theorems that
 // no code needs.
+#![tactic(auto)]

@@ -10,7 +10,7 @@ use spaces::sums::total_up;
 
 // What a report works out: the lengths of all U, gross, net, whether water ballast needs the mark 'justified', and whether deductions
 // pass gross.
-#[derive(Drop)]
+#[derive(Clone, Copy)]
 pub struct Reckoning {
     pub lengths: u64,
     pub gross: u64,

@@ -3,6 +3,8 @@
 //
 // The spaces that stand are the first `count` of 200 places, as everywhere above `spaces`. No public function asks anything of its
 // caller.
+#![tactic(auto)]
+
 pub mod gross;
 mod machinery;
 pub mod records;

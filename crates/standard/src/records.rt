@@ -13,7 +13,7 @@ use spaces::row::{Found, lesser, used};
 use spaces::space::{GREATEST_DECK, Space};
 
 // The number with which a record was refused and its position from 1; 0 and 0 where none was.
-#[derive(Drop)]
+#[derive(Clone, Copy)]
 pub struct RefusedRecord {
     pub number: u8,
     pub position: usize,

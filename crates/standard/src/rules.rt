@@ -24,7 +24,7 @@ use spaces::sums::{Amount, sum};
 pub const GREATEST_ID: u16 = 9_999;
 
 // An entry judged: the number with which it is refused, or 0, and how many enclosing spaces were visited, whatever the number.
-#[derive(Drop)]
+#[derive(Clone, Copy)]
 pub struct EntryRuling {
     pub number: u8,
     pub visited: u8,
@@ -32,7 +32,7 @@ pub struct EntryRuling {
 
 // A withdrawal or a mark judged: the number with which it is refused, or 0, and the space with its id and the place of that, from 0;
 // an empty record and as many as stand where none has it.
-#[derive(Drop)]
+#[derive(Clone, Copy)]
 pub struct Ruling {
     pub number: u8,
     pub place: usize,
@@ -41,7 +41,7 @@ pub struct Ruling {
 
 // What an entry finds on the spaces that stand: its enclosing space, what else is around it, how many enclosing spaces were visited,
 // and whether 200 stand.
-#[derive(Drop)]
+#[derive(Clone, Copy)]
 pub(crate) struct Seen {
     pub(crate) found: Found,
     pub(crate) around: Around,

@@ -1,6 +1,8 @@
 // A script of calls on one current sheet, and an answer line for each: how a newcomer tries the library, how a survey
 // is replayed, and how the library is held against the second program (reference/survey.py), whose protocol this is.
 // What it prints is tested, not proved.
+#![tactic(auto)]
+
 mod answers;
 
 use libc::STDIN_FILENO;

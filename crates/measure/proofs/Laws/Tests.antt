@@ -1,16 +1,16 @@
--- Tests and what they say: of a call that was negated, of a conjunction, and of an order.
+-- Tests and what they say: of a call, of a conjunction, and of an order.
 use mathlib.Core.Path.{◌≡◌, refl, sym, ◌∙◌}
-use mathlib.Core.Bool.{Bool, true, false, not, ◌&&◌}
+use mathlib.Core.Bool.{Bool, true, false, ◌&&◌}
 use Prim.Native.Nat.{ℕ, ◌≤◌, ◌<◌}
 use lib.Dec.{ltb}
-use borrow.Author.Tests.{not-true, not-false, ltb-true, ltb-false, lt-ltb, le-ltb}
+use borrow.Author.Tests.{ltb-true, ltb-false, lt-ltb, le-ltb}
 
--- what a negated answer says of what was asked
-pub holds : {r b : Bool} → r ≡ b → not r ≡ false → b ≡ true
-holds {r} e n = sym e ∙ not-false r n
+-- what an answer says of what was asked
+pub holds : {r b : Bool} → r ≡ b → r ≡ true → b ≡ true
+holds e n = sym e ∙ n
 
-pub fails : {r b : Bool} → r ≡ b → not r ≡ true → b ≡ false
-fails {r} e n = sym e ∙ not-true r n
+pub fails : {r b : Bool} → r ≡ b → r ≡ false → b ≡ false
+fails e n = sym e ∙ n
 
 pub and_left : (a b : Bool) → (a && b) ≡ true → a ≡ true
 and_left true b e = refl

@@ -1,0 +1,78 @@
+-- `ends::end_areas` meets its contract: of accepted offsets the first places have the sections' areas.
+use Prim.Native.Nat.{ℕ}
+use mathlib.Core.Path.{◌≡◌, sym, ap, ◌∙◌}
+use mathlib.Core.Bool.{Bool, true, false, not}
+use mathlib.Core.List.{List}
+use native.Mathlib.Omega.{arith}
+use Rattle.measure.specs.Parts.{under_deck_parts, depth_parts}
+use Rattle.measure.specs.Volumes.{areas}
+use Rattle.measure.specs.Offsets.{in_range, middle_of, counted}
+use Rattle.measure.specs.Ends.{end_areas}
+use Rattle.measure.specs.Handed.{UnderDeckHanded, Taken}
+use Rattle.measure.specs.declared.units.Hundredths.{Hundredths}
+use Rattle.measure.specs.declared.kinds.Kind.TheVariants.{UnderDeck}
+use Rattle.measure.proofs.Laws.Tests.{holds, fails}
+use Rattle.measure.proofs.Laws.Offsets.{under_deck_taken}
+use Rattle.measure.proofs.Laws.Ends.{ends_taken, ends_found}
+use Rattle.measure.proofs.ends.end_areas.Goals.{After-of_depth}
+use Rattle.measure.proofs.ends.end_areas.Goals as goal
+
+-- the answer by the outcomes of the two tests, each negated
+module _ (t l : Hundredths) (ds bs : List ℕ) {r : Bool} (ranged : r ≡ in_range UnderDeck t l ds bs) where
+  out_of_range : r ≡ false → record { fore = 0; aft = 0 } ≡ end_areas t l ds bs
+  unfolding end_areas
+  out_of_range fell = rw (fails ranged fell)
+
+  module _ (in_range : r ≡ true) {n : Bool} (numbered : n ≡ counted UnderDeck t l ds bs) where
+    miscounted : n ≡ false → record { fore = 0; aft = 0 } ≡ end_areas t l ds bs
+    unfolding end_areas
+    miscounted fell = rw (holds ranged in_range, fails numbered fell)
+
+    both_hold : n ≡ true → Taken UnderDeck t l ds bs
+    both_hold held = record { ranged = holds ranged in_range; numbered = holds numbered held }
+
+pub returns-then-not-in_range : goal.returns-then-not-in_range
+returns-then-not-in_range c =
+    let a = c.before.before.before.before.args in
+    out_of_range a.tonnage_length a.length a.depths.now a.breadths.now c.before.in_range.ensures c.if-not-in_range.true
+
+pub returns-then-not-counted : goal.returns-then-not-counted
+returns-then-not-counted c =
+    let r = c.before.before in
+    let a = r.before.before.before.before.args in
+    miscounted a.tonnage_length a.length a.depths.now a.breadths.now r.before.in_range.ensures r.if-not-in_range.false c.before.counted.ensures c.if-not-counted.true
+
+-- behind both tests
+taken : (c : After-of_depth) → (let a = c.before.before.before.before.before.before.before.before.args in Taken UnderDeck a.tonnage_length a.length a.depths.now a.breadths.now)
+taken c =
+    let n = c.before.before in
+    let r = n.before.before in
+    let a = r.before.before.before.before.args in
+    both_hold a.tonnage_length a.length a.depths.now a.breadths.now r.before.in_range.ensures r.if-not-in_range.false n.before.counted.ensures n.if-not-counted.false
+
+handed : (c : After-of_depth) → (let a = c.before.before.before.before.before.before.before.before.args in UnderDeckHanded a.length (under_deck_parts a.tonnage_length a.length) (depth_parts (middle_of a.depths.now)) a.depths.now a.breadths.now)
+handed c =
+    let a = c.before.before.before.before.before.before.before.before.args in
+    under_deck_taken a.tonnage_length a.length a.depths.now a.breadths.now (taken c)
+
+depth_parts_lem : (c : After-of_depth) → c.of_depth.result ≡ depth_parts (middle_of c.before.before.before.before.before.before.before.before.args.depths.now)
+depth_parts_lem c = c.of_depth.ensures ∙ ap depth_parts c.before.middle_of.ensures
+
+pub section_areas-areas-requires : goal.section_areas-areas-requires
+section_areas-areas-requires c = rw (depth_parts_lem c) (handed c).sections
+
+pub overflow_sub-result : goal.overflow_sub-result
+overflow_sub-result c = omega (arith, (handed (goal.at.overflow_sub-result c).After-of_depth).stations)
+
+pub bounds-areas-depths : goal.bounds-areas-depths
+bounds-areas-depths c = omega (arith, (handed (goal.at.bounds-areas-depths c).After-of_depth).stations, (handed (goal.at.bounds-areas-depths c).After-of_depth).sections.few)
+
+pub returns : goal.returns
+returns c =
+    let d = c.before in
+    let a = d.before.before.before.before.before.before.before.before.args in
+    let ds = a.depths.now in
+    let bs = a.breadths.now in
+    ends_found ds bs c.section_areas-areas.result (omega (arith, (handed (goal.at.returns c).After-of_depth).stations))
+    (c.section_areas-areas.ensures ∙ ap (λ (m : ℕ). areas m ds bs) (depth_parts_lem (goal.at.returns c).After-of_depth))
+    ∙ sym (ends_taken a.tonnage_length a.length ds bs (taken (goal.at.returns c).After-of_depth))

@@ -1,0 +1,17 @@
+-- `multipliers::weighted_sum` meets its contract. The loop's invariant: the sum so far and what is left to sum are the whole.
+use Prim.Native.Nat.{◌≤◌, ◌+◌, ◌*◌, ◌-◌, ◌^◌}
+use mathlib.Core.Path.{◌≡◌, ap, ap₂}
+use native.Mathlib.Nat.{zero-add}
+use lib.ListN.{length, drop, drop_of_length-le}
+use Rattle.measure.specs.Multipliers.{weighted, weighted_from}
+use Rattle.measure.proofs.Laws.Products.{at_most}
+use Rattle.measure.proofs.Laws.Multipliers.{multiplier_le, weighted_step}
+use native.Mathlib.Omega.{arith}
+use Rattle.measure.proofs.multipliers.weighted_sum.Given as goal
+
+abbrev pub invariant-loop-i : goal.invariant-loop-i
+invariant-loop-i l =
+    (l.i ≤ length l.values) × (l.sum + weighted_from l.parts (l.i + 1) (drop l.i l.values) ≡ weighted l.parts l.values) × (l.sum ≤ 4 * 2 ^ 32 * l.i)
+
+abbrev pub decreases-loop-i : goal.decreases-loop-i
+decreases-loop-i l = length l.values - l.i

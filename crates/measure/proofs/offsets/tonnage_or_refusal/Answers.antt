@@ -1,0 +1,54 @@
+-- `offsets::tonnage_or_refusal` meets its contract: the tests are those of 2 and 3, in the table's order.
+use Prim.Native.Nat.{ℕ}
+use mathlib.Core.Path.{◌≡◌}
+use mathlib.Core.Bool.{Bool, true, false, not}
+use mathlib.Core.List.{List}
+use Rattle.measure.specs.Kinds.{kind_of}
+use Rattle.measure.specs.Offsets.{in_range, counted, tonnage, measured}
+use Rattle.measure.specs.Handed.{Taken}
+use Rattle.measure.specs.declared.units.Hundredths.{Hundredths}
+use Rattle.measure.specs.declared.kinds.Kind.{Kind}
+use Rattle.measure.proofs.Laws.Tests.{holds, fails}
+use Rattle.measure.proofs.offsets.tonnage_or_refusal.Goals as goal
+
+-- the answer by the outcomes of the two tests, each called with the kind found and then negated
+module _ (code : ℕ) (t l : Hundredths) (hs bs : List ℕ) {k : Kind} (kind : k ≡ kind_of code) {r : Bool} (ranged : r ≡ in_range k t l hs bs) where
+  out_of_range : r ≡ false → record { number = 2; tonnage = 0 } ≡ measured code t l hs bs
+  unfolding measured
+  out_of_range fell = simp (fails (rw kind at ranged) fell)
+
+  module _ (in_range : r ≡ true) {n : Bool} (numbered : n ≡ counted k t l hs bs) where
+    miscounted : n ≡ false → record { number = 3; tonnage = 0 } ≡ measured code t l hs bs
+    unfolding measured
+    miscounted fell = simp (holds (rw kind at ranged) in_range, fails (rw kind at numbered) fell)
+
+    taken : n ≡ true → Taken k t l hs bs
+    taken held = record { ranged = holds ranged in_range; numbered = holds numbered held }
+
+    accepted : n ≡ true → {tons : ℕ} → tons ≡ tonnage k t l hs bs → record { number = 0; tonnage = tons } ≡ measured code t l hs bs
+    unfolding measured
+    accepted held e = simp (holds (rw kind at ranged) in_range, holds (rw kind at numbered) held, rw kind at e)
+
+pub returns-then-not-in_range : goal.returns-then-not-in_range
+returns-then-not-in_range c =
+    let s = c.before.before.before.before.before in
+    out_of_range s.args.code s.args.tonnage_length s.args.length s.args.heights.now s.args.breadths.now c.before.before.kind_of-kind.ensures c.before.in_range.ensures c.if-not-in_range.true
+
+pub returns-then-not-counted : goal.returns-then-not-counted
+returns-then-not-counted c =
+    let r = c.before.before in
+    let s = r.before.before.before.before.before in
+    miscounted s.args.code s.args.tonnage_length s.args.length s.args.heights.now s.args.breadths.now r.before.before.kind_of-kind.ensures r.before.in_range.ensures r.if-not-in_range.false c.before.counted.ensures c.if-not-counted.true
+
+pub tonnage-requires : goal.tonnage-requires
+tonnage-requires c =
+    let r = c.before.before in
+    let s = r.before.before.before.before.before in
+    taken s.args.code s.args.tonnage_length s.args.length s.args.heights.now s.args.breadths.now r.before.before.kind_of-kind.ensures r.before.in_range.ensures r.if-not-in_range.false c.before.counted.ensures c.if-not-counted.false
+
+pub returns : goal.returns
+returns c =
+    let n = c.before in
+    let r = n.before.before in
+    let s = r.before.before.before.before.before in
+    accepted s.args.code s.args.tonnage_length s.args.length s.args.heights.now s.args.breadths.now r.before.before.kind_of-kind.ensures r.before.in_range.ensures r.if-not-in_range.false n.before.counted.ensures n.if-not-counted.false c.tonnage.ensures

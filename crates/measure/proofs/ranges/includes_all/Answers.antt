@@ -1,0 +1,33 @@
+-- `ranges::includes_all` meets its contract. The loop's invariant: what is left of the list is within where the whole is.
+use Prim.Native.Nat.{◌≤◌, ◌-◌}
+use mathlib.Core.Path.{◌≡◌, refl, sym, ap, ◌∙◌}
+use lib.ListN.{length, drop, drop_of_length-le}
+use Rattle.measure.specs.Ranges.{includes_all}
+use Rattle.measure.proofs.Laws.Tests.{holds, fails}
+use Rattle.measure.proofs.Laws.Ranges.{includes_all_step}
+use native.Mathlib.Omega.{arith}
+use Rattle.measure.proofs.ranges.includes_all.Goals as goal
+
+pub loop-i-init : goal.loop-i-init
+loop-i-init c = (omega arith, refl)
+
+pub returns-then-not-includes : goal.returns-then-not-includes
+returns-then-not-includes c =
+    let l = c.before.before.before.before in
+    let s = l.before.before in
+    sym
+    (sym l.loop-i.invariant.1
+    ∙ includes_all_step s.args.range l.loop-i.i s.args.xs.now c.before.before.before.loop-i-test.true
+    ∙ simp (fails c.before.includes.ensures c.if-not-includes.true))
+
+pub loop-i-preserved : goal.loop-i-preserved
+loop-i-preserved c =
+    let l = c.before.before.before.before in
+    let s = l.before.before in
+    let st = includes_all_step s.args.range l.loop-i.i s.args.xs.now c.before.before.before.loop-i-test.true in
+    (omega arith, sym (st ∙ simp (holds c.before.includes.ensures c.if-not-includes.false)) ∙ l.loop-i.invariant.1)
+
+pub returns : goal.returns
+returns c =
+    let s = c.before.before.before in
+    sym (ap (includes_all s.args.range) (drop_of_length-le s.args.xs.now c.loop-i-test.false)) ∙ c.before.loop-i.invariant.1

@@ -1,0 +1,40 @@
+-- `roundings::of_depths` meets its contract. The loop's invariant: those found are the roundings at the first i stations.
+use Prim.Native.Nat.{◌≤◌, ◌-◌}
+use mathlib.Core.Path.{◌≡◌, refl, ap, ap₂, ◌∙◌}
+use mathlib.Core.List.{List}
+use native.Mathlib.Omega.{arith}
+use lib.IntN.{ℤ}
+use lib.ListN.{length, take, set}
+use lib.Seq.{take_all}
+use mir.Syntax.{w8}
+use mir.ValLaws.{to_z-of_z}
+use Rattle.measure.specs.Roundings.{of_depths}
+use Rattle.measure.proofs.Laws.Roundings.{depths_more}
+use Rattle.measure.proofs.roundings.of_depths.Goals as goal
+
+pub loop-i-init : goal.loop-i-init
+unfolding of_depths
+loop-i-init c = (omega arith, refl)
+
+pub offset_bounds-depths-i : goal.offset_bounds-depths-i
+offset_bounds-depths-i c = omega (arith, c.before.before.before.requires)
+
+pub bounds-found-i : goal.bounds-found-i
+bounds-found-i c = omega (arith, c.before.before.before.before.before.requires)
+
+pub loop-i-preserved : goal.loop-i-preserved
+loop-i-preserved c =
+    let l = c.before.before.before in
+    let s = l.before.before in
+    let i = l.loop-i.i in (
+      omega arith,
+      ap₂ (λ (row : List ℤ) (x : ℤ). set row i x) l.loop-i.invariant.1 (to_z-of_z w8 _ (record { sfits = c.rounding_of_depth.type_inv }) ∙ c.rounding_of_depth.ensures)
+          ∙ depths_more s.args.parts i s.args.depths.now (omega arith) s.requires.2,
+    )
+
+pub returns : goal.returns
+returns c =
+    let s = c.before.before.before in
+    let l = c.before.loop-i in
+    let depths = s.args.depths.now in
+    l.invariant.1 ∙ ap (of_depths s.args.parts) (take_all l.i depths c.loop-i-test.false)

@@ -1,0 +1,23 @@
+-- `volumes::section_areas` meets its contract. The loop's invariant: the areas found and those of the sections left are all, and section
+-- i's breadths begin at i (m + 1).
+use Prim.Native.Nat.{ℕ, ◌≤◌, ◌+◌, ◌*◌, ◌-◌}
+use mathlib.Core.Path.{◌≡◌, refl, sym, ap, ◌∙◌}
+use mathlib.Core.List.{List, ◌++◌, append-nil}
+use native.Mathlib.Nat.{zero-mul, add-mul, mul-le-mul_right, add-sub_cancel_left}
+use lib.ListN.{length, take, drop, get_or, set, length-set, drop_of_length-le}
+use Rattle.measure.specs.Volumes.{hundredths, station_area, areas}
+use Rattle.measure.specs.Handed.{StationHanded}
+use Rattle.measure.proofs.Laws.Parts.{most}
+use Rattle.measure.proofs.Laws.Volumes.{areas_found, station_handed}
+use native.Mathlib.Omega.{arith}
+use Rattle.measure.proofs.volumes.section_areas.Given as goal
+
+abbrev pub invariant-loop-i : goal.invariant-loop-i
+invariant-loop-i l =
+    (l.i ≤ length l.depths)
+    × (l.at ≡ l.i * (l.m + 1))
+    × (length l.found ≡ 34)
+    × (take l.i l.found ++ areas l.m (drop l.i l.depths) (drop l.at l.breadths) ≡ areas l.m l.depths l.breadths)
+
+abbrev pub decreases-loop-i : goal.decreases-loop-i
+decreases-loop-i l = length l.depths - l.i

@@ -1,0 +1,17 @@
+-- `words::part_start` meets its contract. The loop's invariant: what is behind the marks left, from here on, is what is behind all k.
+use Prim.Native.Nat.{ℕ, ◌+◌, ◌-◌, ◌≤◌}
+use mathlib.Core.Path.{◌≡◌, refl, sym, ap, ◌∙◌}
+use mathlib.Core.List.{List}
+use mathlib.Core.Logic.{⊎_elim}
+use lib.ListN.{length, drop}
+use Rattle.script.specs.Words.{behind}
+use Rattle.script.proofs.Laws.Parts.{behind_found, behind_passed, behind_ended}
+use native.Mathlib.Omega.{arith}
+use Rattle.script.proofs.words.part_start.Given as goal
+
+abbrev pub invariant-loop-i : goal.invariant-loop-i
+invariant-loop-i l =
+    (l.i ≤ length l.text) × (behind l.mark l.left (drop l.i l.text) ≡ behind l.mark l.k l.text)
+
+abbrev pub decreases-loop-i : goal.decreases-loop-i
+decreases-loop-i l = length l.text - l.i
