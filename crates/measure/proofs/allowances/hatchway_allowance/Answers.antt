@@ -1,5 +1,4 @@
 -- `allowances::hatchway_allowance` meets its contract.
-use native.Mathlib.Omega.{arith}
 use Rattle.measure.specs.Allowances.{hatchway_allowance}
 use Rattle.measure.proofs.allowances.hatchway_allowance.Goals as goal
 

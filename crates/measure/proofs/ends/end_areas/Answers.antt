@@ -1,7 +1,7 @@
 -- `ends::end_areas` meets its contract: of accepted offsets the first places have the sections' areas.
 use Prim.Native.Nat.{ℕ}
 use mathlib.Core.Path.{◌≡◌, sym, ap, ◌∙◌}
-use mathlib.Core.Bool.{Bool, true, false, not}
+use mathlib.Core.Bool.{Bool, true, false}
 use mathlib.Core.List.{List}
 use native.Mathlib.Omega.{arith}
 use Rattle.measure.specs.Parts.{under_deck_parts, depth_parts}

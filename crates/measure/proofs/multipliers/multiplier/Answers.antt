@@ -1,7 +1,6 @@
 -- `multipliers::multiplier` meets its contract.
 use borrow.Author.Tests.{eq-eqb, ne_eqb}
 use Rattle.measure.specs.Multipliers.{multiplier}
-use native.Mathlib.Omega.{arith}
 use Rattle.measure.proofs.multipliers.multiplier.Goals as goal
 
 pub returns-then-number-eq1 : goal.returns-then-number-eq1

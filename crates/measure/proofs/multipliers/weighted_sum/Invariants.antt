@@ -1,12 +1,8 @@
 -- `multipliers::weighted_sum` meets its contract. The loop's invariant: the sum so far and what is left to sum are the whole.
 use Prim.Native.Nat.{◌≤◌, ◌+◌, ◌*◌, ◌-◌, ◌^◌}
-use mathlib.Core.Path.{◌≡◌, ap, ap₂}
-use native.Mathlib.Nat.{zero-add}
-use lib.ListN.{length, drop, drop_of_length-le}
+use mathlib.Core.Path.{◌≡◌}
+use lib.ListN.{length, drop}
 use Rattle.measure.specs.Multipliers.{weighted, weighted_from}
-use Rattle.measure.proofs.Laws.Products.{at_most}
-use Rattle.measure.proofs.Laws.Multipliers.{multiplier_le, weighted_step}
-use native.Mathlib.Omega.{arith}
 use Rattle.measure.proofs.multipliers.weighted_sum.Given as goal
 
 abbrev pub invariant-loop-i : goal.invariant-loop-i

@@ -1,7 +1,7 @@
 -- `offsets::tonnage_or_refusal` meets its contract: the tests are those of 2 and 3, in the table's order.
 use Prim.Native.Nat.{ℕ}
 use mathlib.Core.Path.{◌≡◌}
-use mathlib.Core.Bool.{Bool, true, false, not}
+use mathlib.Core.Bool.{Bool, true, false}
 use mathlib.Core.List.{List}
 use Rattle.measure.specs.Kinds.{kind_of}
 use Rattle.measure.specs.Offsets.{in_range, counted, tonnage, measured}

@@ -1,8 +1,8 @@
 -- `parts::nearest_parts` meets its contract. The loop's invariant: the best so far is the nearest of the last i + 1 even numbers.
-use Prim.Native.Nat.{suc, ◌≤◌, ◌-◌}
+use Prim.Native.Nat.{suc}
 use mathlib.Core.Path.{◌≡◌, refl, ap, sym, ◌∙◌}
 use native.Mathlib.Numerals.{add-one}
-use Rattle.measure.specs.Parts.{nearer, nearest_parts}
+use Rattle.measure.specs.Parts.{nearest_parts}
 use Rattle.measure.proofs.Laws.Parts.{nearest_of_last, nearest_of_last_le}
 use native.Mathlib.Omega.{arith}
 use Rattle.measure.proofs.parts.nearest_parts.Goals as goal

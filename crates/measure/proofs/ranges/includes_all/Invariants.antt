@@ -1,11 +1,8 @@
 -- `ranges::includes_all` meets its contract. The loop's invariant: what is left of the list is within where the whole is.
 use Prim.Native.Nat.{◌≤◌, ◌-◌}
-use mathlib.Core.Path.{◌≡◌, refl, sym, ap, ◌∙◌}
-use lib.ListN.{length, drop, drop_of_length-le}
+use mathlib.Core.Path.{◌≡◌}
+use lib.ListN.{length, drop}
 use Rattle.measure.specs.Ranges.{includes_all}
-use Rattle.measure.proofs.Laws.Tests.{holds, fails}
-use Rattle.measure.proofs.Laws.Ranges.{includes_all_step}
-use native.Mathlib.Omega.{arith}
 use Rattle.measure.proofs.ranges.includes_all.Given as goal
 
 abbrev pub invariant-loop-i : goal.invariant-loop-i

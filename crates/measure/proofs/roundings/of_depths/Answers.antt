@@ -1,10 +1,9 @@
 -- `roundings::of_depths` meets its contract. The loop's invariant: those found are the roundings at the first i stations.
-use Prim.Native.Nat.{◌≤◌, ◌-◌}
-use mathlib.Core.Path.{◌≡◌, refl, ap, ap₂, ◌∙◌}
+use mathlib.Core.Path.{refl, ap, ap₂, ◌∙◌}
 use mathlib.Core.List.{List}
 use native.Mathlib.Omega.{arith}
 use lib.IntN.{ℤ}
-use lib.ListN.{length, take, set}
+use lib.ListN.{set}
 use lib.Seq.{take_all}
 use mir.Syntax.{w8}
 use mir.ValLaws.{to_z-of_z}

@@ -1,12 +1,12 @@
 -- `sections::doubled` meets its contract. The loop's invariant: the stations told and those still to tell are all.
-use Prim.Native.Nat.{◌≤◌, ◌+◌, ◌-◌}
+use Prim.Native.Nat.{◌+◌, ◌-◌}
 use mathlib.Core.Path.{◌≡◌, refl, sym, ap, ◌∙◌}
 use mathlib.Core.Bool.{Bool}
 use mathlib.Core.List.{List, ◌∷◌, ◌++◌, append-nil}
 use native.Mathlib.Nat.{sub-zero}
 use native.Mathlib.Omega.{arith}
-use lib.ListN.{length, take, length-set}
-use Rattle.measure.specs.Sections.{between_from, doubled}
+use lib.ListN.{take, length-set}
+use Rattle.measure.specs.Sections.{between_from}
 use Rattle.measure.specs.declared.sections.Zoned.{Zoned}
 use Rattle.measure.proofs.Laws.Parts.{most}
 use Rattle.measure.proofs.Laws.Lists.{store_step}

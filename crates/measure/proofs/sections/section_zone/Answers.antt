@@ -1,6 +1,6 @@
 -- `sections::section_zone` meets its contract. The loop's invariant: section i is the one after i - first of those of the stations from
 -- j on.
-use Prim.Native.Nat.{ℕ, ◌≤◌, ◌+◌, ◌*◌, ◌-◌}
+use Prim.Native.Nat.{ℕ, ◌+◌, ◌-◌}
 use mathlib.Core.Path.{◌≡◌, sym, ap, ◌∙◌}
 use mathlib.Core.Bool.{cond}
 use native.Mathlib.Nat.{sub-zero}

@@ -1,15 +1,9 @@
 -- `sections::section_zone` meets its contract. The loop's invariant: section i is the one after i - first of those of the stations from
 -- j on.
-use Prim.Native.Nat.{ℕ, ◌≤◌, ◌+◌, ◌*◌, ◌-◌}
-use mathlib.Core.Path.{◌≡◌, sym, ap, ◌∙◌}
-use mathlib.Core.Bool.{cond}
-use native.Mathlib.Nat.{sub-zero}
-use native.Mathlib.Omega.{arith}
+use Prim.Native.Nat.{◌≤◌, ◌+◌, ◌*◌, ◌-◌}
+use mathlib.Core.Path.{◌≡◌}
 use lib.ListN.{get_or}
-use Rattle.measure.specs.Sections.{between_zones, zones_from, section_zones}
-use Rattle.measure.specs.declared.sections.Zoned.{Zoned}
-use Rattle.measure.proofs.Laws.Parts.{most}
-use Rattle.measure.proofs.Laws.Sections.{zone_here, zone_later}
+use Rattle.measure.specs.Sections.{zones_from, section_zones}
 use Rattle.measure.proofs.sections.section_zone.Given as goal
 
 abbrev pub invariant-loop-j : goal.invariant-loop-j

@@ -1,12 +1,8 @@
 -- `sections::sections_over` meets its contract. The loop's invariant: the count so far and the sections still to count are all.
 use Prim.Native.Nat.{◌≤◌, ◌+◌, ◌*◌, ◌-◌}
-use mathlib.Core.Path.{◌≡◌, ap}
-use native.Mathlib.Omega.{arith}
-use native.Mathlib.Nat.{zero-add}
-use lib.ListN.{length, take, drop}
+use mathlib.Core.Path.{◌≡◌}
+use lib.ListN.{take, drop}
 use Rattle.measure.specs.Sections.{sections_over}
-use Rattle.measure.proofs.Laws.Lists.{front_end}
-use Rattle.measure.proofs.Laws.Sections.{sections_step}
 use Rattle.measure.proofs.sections.sections_over.Given as goal
 
 abbrev pub invariant-loop-j : goal.invariant-loop-j

@@ -1,10 +1,10 @@
 -- `sections::zone_of` meets its contract. The loop's invariant: `end` is that of zone k, and the first k ends were looked at.
-use Prim.Native.Nat.{ℕ, ◌≤◌, ◌+◌, ◌*◌, ◌-◌}
+use Prim.Native.Nat.{ℕ, ◌≤◌, ◌+◌, ◌*◌}
 use mathlib.Core.Path.{◌≡◌, refl, ap, ap₂, ◌∙◌}
 use mathlib.Core.Bool.{Bool, ◌||◌}
 use lib.Dec.{eqb}
 use native.Mathlib.Omega.{arith}
-use Rattle.measure.specs.Zones.{zone_of, between, zone_end, end_met, ends_before}
+use Rattle.measure.specs.Zones.{zone_of, between}
 use Rattle.measure.specs.Sections.{station_at, zone_of_station, between_zones}
 use Rattle.measure.proofs.Laws.Products.{at_most}
 use Rattle.measure.proofs.Laws.Multipliers.{multiplier_le}

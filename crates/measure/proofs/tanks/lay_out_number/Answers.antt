@@ -1,6 +1,6 @@
 -- `tanks::lay_out_number` meets its contract: the tests are those of 2 and 9, in the table's order.
 use mathlib.Core.Path.{◌≡◌, sym, ◌∙◌}
-use mathlib.Core.Bool.{Bool, true, false, not}
+use mathlib.Core.Bool.{Bool, true, false}
 use Rattle.measure.specs.Tanks.{passes_end, lengths_fit, lay_out_number}
 use Rattle.measure.specs.declared.units.Hundredths.{Hundredths}
 use Rattle.measure.proofs.Laws.Tests.{holds, fails}

@@ -1,7 +1,7 @@
 -- `tanks::measure_tank` meets its contract: 3 is judged only where neither 9 nor 29 applies, so that it may be tried last.
 use Prim.Native.Nat.{ℕ}
 use mathlib.Core.Path.{◌≡◌, sym, ◌∙◌}
-use mathlib.Core.Bool.{Bool, true, false, not, and-false}
+use mathlib.Core.Bool.{Bool, true, false, and-false}
 use mathlib.Core.List.{List}
 use Rattle.measure.specs.Sections.{layout_of}
 use Rattle.measure.specs.Volumes.{tons}

@@ -1,12 +1,9 @@
 -- `tanks::taken` meets its contract. The loop's invariant: the areas found and those still to take are all.
-use Prim.Native.Nat.{ℕ, ◌≤◌, ◌+◌, ◌*◌, ◌-◌}
-use mathlib.Core.Path.{◌≡◌, refl, sym, ap, ◌∙◌}
-use mathlib.Core.List.{List, ◌∷◌, ◌++◌, append-nil}
-use native.Mathlib.Omega.{arith}
-use lib.ListN.{length, take, drop, length-set}
+use Prim.Native.Nat.{◌≤◌, ◌*◌, ◌-◌}
+use mathlib.Core.Path.{◌≡◌}
+use mathlib.Core.List.{◌++◌}
+use lib.ListN.{length, take, drop}
 use Rattle.measure.specs.Tanks.{taken}
-use Rattle.measure.proofs.Laws.Lists.{front_end, store_step}
-use Rattle.measure.proofs.Laws.Tanks.{taken_step}
 use Rattle.measure.proofs.tanks.taken.Given as goal
 
 abbrev pub invariant-loop-j : goal.invariant-loop-j

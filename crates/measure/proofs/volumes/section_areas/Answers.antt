@@ -1,6 +1,6 @@
 -- `volumes::section_areas` meets its contract. The loop's invariant: the areas found and those of the sections left are all, and section
 -- i's breadths begin at i (m + 1).
-use Prim.Native.Nat.{ℕ, ◌≤◌, ◌+◌, ◌*◌, ◌-◌}
+use Prim.Native.Nat.{ℕ, ◌≤◌, ◌+◌}
 use mathlib.Core.Path.{◌≡◌, refl, sym, ap, ◌∙◌}
 use mathlib.Core.List.{List, ◌++◌, append-nil}
 use native.Mathlib.Nat.{zero-mul, add-mul, mul-le-mul_right, add-sub_cancel_left}

@@ -1,15 +1,10 @@
 -- `volumes::section_areas` meets its contract. The loop's invariant: the areas found and those of the sections left are all, and section
 -- i's breadths begin at i (m + 1).
-use Prim.Native.Nat.{ℕ, ◌≤◌, ◌+◌, ◌*◌, ◌-◌}
-use mathlib.Core.Path.{◌≡◌, refl, sym, ap, ◌∙◌}
-use mathlib.Core.List.{List, ◌++◌, append-nil}
-use native.Mathlib.Nat.{zero-mul, add-mul, mul-le-mul_right, add-sub_cancel_left}
-use lib.ListN.{length, take, drop, get_or, set, length-set, drop_of_length-le}
-use Rattle.measure.specs.Volumes.{hundredths, station_area, areas}
-use Rattle.measure.specs.Handed.{StationHanded}
-use Rattle.measure.proofs.Laws.Parts.{most}
-use Rattle.measure.proofs.Laws.Volumes.{areas_found, station_handed}
-use native.Mathlib.Omega.{arith}
+use Prim.Native.Nat.{◌≤◌, ◌+◌, ◌*◌, ◌-◌}
+use mathlib.Core.Path.{◌≡◌}
+use mathlib.Core.List.{◌++◌}
+use lib.ListN.{length, take, drop}
+use Rattle.measure.specs.Volumes.{areas}
 use Rattle.measure.proofs.volumes.section_areas.Given as goal
 
 abbrev pub invariant-loop-i : goal.invariant-loop-i
