@@ -123,6 +123,7 @@ fn passes(sum: u64, more: u32, limit: u32) -> bool
 
 // The number with which x is refused, or 0, by its enclosing space, what else is around it, whether 6 and 9 apply, and whether 200
 // spaces stand.
+#[tactic(auto, unfolding(crate::specs::Handed::judged_number))]
 pub(crate) fn judged(
     x: Space,
     found: Found,

@@ -1,0 +1,10 @@
+-- `rules::off_twice` meets its contract.
+use mathlib.Core.Path.{sym}
+use borrow.Author.Tests.{eq-eqb, ne_eqb}
+use Rattle.standard.proofs.rules.off_twice.Goals as goal
+
+pub returns-then-x-eq0 : goal.returns-then-x-eq0
+returns-then-x-eq0 c = simp (eq-eqb _ _ c.if-x-eq0.true)
+
+pub returns : goal.returns
+returns c = sym (simp (ne_eqb _ _ c.if-x-eq0.false))
