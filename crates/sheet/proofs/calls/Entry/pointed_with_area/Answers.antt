@@ -1,0 +1,48 @@
+-- `Entry::pointed_with_area` meets its contract: with no end pointed, no area is looked at.
+use Prim.Native.Nat.{ℕ}
+use mathlib.Core.Path.{◌≡◌, sym}
+use mathlib.Core.Bool.{Bool, true, false, not, ◌&&◌, ◌||◌}
+use mathlib.Core.List.{List}
+use Rattle.measure.specs.Ends.{end_areas}
+use Rattle.measure.specs.declared.units.Hundredths.{Hundredths}
+use Rattle.measure.proofs.Laws.Tests.{holds, fails, and_left}
+use Rattle.measure.specs.declared.ends.EndAreas.{EndAreas}
+use Rattle.sheet.specs.Ends.{is_pointed, has_ends, pointed_area, pointed_with_area}
+use Rattle.sheet.specs.declared.calls.Entry.{Entry}
+use Rattle.sheet.proofs.Laws.Ends.{unpointed}
+use Rattle.sheet.proofs.calls.Entry.pointed_with_area.Goals as goal
+
+-- what is answered: no end is pointed; else, of a U whose areas were found, the fore end decides, else the aft end
+module _ (e : Entry) (L : Hundredths) (ds bs : List ℕ) {some : Bool} (pointed : some ≡ (has_ends e && (is_pointed e.fore_end || is_pointed e.aft_end))) where
+  abbrev told : Bool
+  told = pointed_with_area e (end_areas L e.length ds bs)
+
+  by-none : some ≡ false → false ≡ told
+  by-none none = sym (unpointed e (end_areas L e.length ds bs) (fails pointed none))
+
+  module _ (one : some ≡ true) {found : EndAreas} (areas : found ≡ end_areas L e.length ds bs) {fore : Bool} (at-fore : fore ≡ pointed_area e.fore_end found.fore) where
+    a-U : has_ends e ≡ true
+    a-U = and_left (has_ends e) (is_pointed e.fore_end || is_pointed e.aft_end) (holds pointed one)
+
+    by-fore : fore ≡ true → true ≡ told
+    unfolding pointed_with_area
+    by-fore t = rw (a-U, ← areas, ← at-fore, t)
+
+    by-aft : fore ≡ false → {aft : Bool} → aft ≡ pointed_area e.aft_end found.aft → aft ≡ told
+    unfolding pointed_with_area
+    by-aft f at-aft = rw (a-U, ← areas, ← at-fore, f) at-aft
+
+pub returns-then-not-has_pointed_end : goal.returns-then-not-has_pointed_end
+returns-then-not-has_pointed_end c =
+    let a = c.args in
+    by-none a.self a.whole a.depths.now a.breadths.now c.has_pointed_end.ensures c.if-not-has_pointed_end.true
+
+pub returns-then-pointed_area : goal.returns-then-pointed_area
+returns-then-pointed_area c =
+    let a = c.args in
+    by-fore a.self a.whole a.depths.now a.breadths.now c.has_pointed_end.ensures c.if-not-has_pointed_end.false c.end_areas-areas.ensures c.pointed_area.ensures c.if-pointed_area.true
+
+pub returns : goal.returns
+returns c =
+    let a = c.args in
+    by-aft a.self a.whole a.depths.now a.breadths.now c.has_pointed_end.ensures c.if-not-has_pointed_end.false c.end_areas-areas.ensures c.pointed_area.ensures c.if-pointed_area.false c.pointed_area-2.ensures

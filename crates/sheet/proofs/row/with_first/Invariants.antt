@@ -1,0 +1,18 @@
+-- `row::with_first` meets its contract. The loop's invariant: up to i each is a record's space.
+use Prim.Native.Nat.{ℕ, ◌-◌, ◌≤◌}
+use mathlib.Core.Path.{◌≡◌, refl, sym, ap, ap₂, ◌∙◌}
+use mathlib.Core.List.{List}
+use native.Mathlib.Omega.{arith}
+use lib.ListN.{length, get_or, set, length-map, get_or-map}
+use lib.Seq.{paste}
+use Rattle.spaces.specs.Space.{empty_space, recorded, all_recorded}
+use Rattle.spaces.specs.declared.space.Space.{Space}
+use Rattle.sheet.proofs.Laws.Row.{copy_none, copy_step}
+use Rattle.sheet.proofs.row.with_first.Given as goal
+
+abbrev pub invariant-loop-i : goal.invariant-loop-i
+invariant-loop-i l =
+    (l.i ≤ l.n) × (length l.initial.row ≡ 200) × (length l.initial.records ≡ 200) × (l.records ≡ l.initial.records) × (l.row ≡ paste l.initial.row 0 (all_recorded l.initial.records) (l.i - 0))
+
+abbrev pub decreases-loop-i : goal.decreases-loop-i
+decreases-loop-i l = l.n - l.i

@@ -1,0 +1,131 @@
+-- `Sheet::enter_tank` meets its contract: the tests of 1 to 10 and 29, the entry made and noted, and the enclosing spaces visited.
+use mathlib.Core.Path.{◌≡◌, sym, ap, ap₂, ◌∙◌}
+use mathlib.Core.Bool.{Bool, true, cond, not, ◌||◌}
+use mathlib.Core.List.{List, ◌∷◌}
+use Prim.Native.Nat.{ℕ}
+use borrow.Author.Tests.{not-false}
+use lib.Dec.{eqb}
+use Rattle.measure.specs.Refusals.{first_of}
+use Rattle.measure.specs.Tanks.{tank_in_range}
+use Rattle.measure.specs.declared.offsets.Measured.{Measured}
+use Rattle.measure.proofs.Laws.Tests.{holds, fails}
+use Rattle.measure.proofs.Laws.Tanks.{judged_by_number}
+use Rattle.standard.specs.Rules.{entry_ruling}
+use Rattle.standard.specs.Tanks.{under_deck_with, tank_tests, tank_number}
+use Rattle.standard.specs.declared.rules.EntryRuling.{EntryRuling}
+use Rattle.spaces.specs.declared.space.Space.{Space}
+use Rattle.sheet.specs.Sheet.{standing, usable}
+use Rattle.sheet.specs.Calls.{answered, changed, out_of_range, visited_for}
+use Rattle.sheet.specs.Tanks.{tank_of, tank_measured, tank_in, sections_wrong, tank_entered, tank_entering}
+use Rattle.sheet.specs.declared.changes.Change.TheVariants.{Entered}
+use Rattle.sheet.specs.declared.sheet.Sheet.{Sheet}
+use Rattle.sheet.specs.declared.tanks.Tank.{Tank}
+use Rattle.sheet.proofs.Laws.Calls.{is_open, refused, answered_1, accepted, ruling_visits, fitted_open_places, places, open_places}
+use Rattle.sheet.proofs.sheet.Sheet.enter_tank.Goals.{After-judged-number}
+use Rattle.sheet.proofs.sheet.Sheet.enter_tank.Goals as goal
+
+module _ (s : Sheet) (k : Tank) (ds bs : List ℕ) where
+  abbrev x : Space
+  x = tank_in s.length (standing s) k ds bs
+
+  abbrev next : Sheet
+  next = changed (Entered x) s
+
+  -- the tests behind those of measuring, and behind that of 1
+  abbrev from-4 : List (Bool × ℕ)
+  from-4 = tank_tests s.length (standing s) x k.fore
+
+  abbrev from_2 : List (Bool × ℕ)
+  from_2 =
+      (out_of_range k.standing k.deck, 2)
+      ∷ (not (tank_in_range k.length k.fore ds bs), 2)
+      ∷ (sections_wrong s.length (standing s) k ds bs, 3)
+      ∷ from-4
+
+  -- what is answered beside a change
+  answering : {n v : ℕ} {after : Sheet} → record { number = n; sheet = after } ≡ tank_entered s k ds bs → v ≡ visited_for s x
+      → record { number = n; visited = v; sheet = after } ≡ tank_entering s k ds bs
+  unfolding tank_entering
+  answering change walked = simp (sym change, walked)
+
+  -- on an open sheet: measuring answered r, y is the record that is made of it, and the tank is judged
+  record Judging (r : Measured) (y : Space) (ruling : EntryRuling) (n : ℕ) : Type 0 where
+    on : usable s ≡ true
+    is : r ≡ tank_measured s.length (standing s) k ds bs
+    made_of : y ≡ tank_of k r.tonnage
+    ruled : ruling ≡ entry_ruling (tank_number s.length (standing s) y k.fore) (standing s) y
+    first : n ≡ cond (out_of_range k.standing k.deck) 2 (cond (eqb r.number 2 || eqb r.number 3) r.number ruling.number)
+
+  module _ {r : Measured} {y : Space} {ruling : EntryRuling} {n : ℕ} (j : Judging r y ruling n) where
+    same : y ≡ x
+    same = j.made_of ∙ ap (λ (q : Measured). tank_of k q.tonnage) j.is
+
+    -- 2 and 3 are those of measuring
+    number_is : n ≡ first_of ((not (usable s), 1) ∷ from_2)
+    unfolding tank_number
+    number_is =
+        let u = under_deck_with k.within (standing s) in
+        j.first
+        ∙ rw (j.ruled, same, j.is)
+        (ap (λ (i : ℕ). cond (out_of_range k.standing k.deck) 2 i) (judged_by_number s.length u.length u.m k.length k.fore ds bs from-4))
+        ∙ sym (is_open s from_2 j.on)
+
+    change-is : answered n s (changed (Entered y) s) ≡ tank_entered s k ds bs
+    unfolding tank_entered
+    change-is = ap₂ (λ (i : ℕ) (z : Space). answered i s (changed (Entered z) s)) number_is same
+
+    visited_is : ruling.visited ≡ visited_for s x
+    visited_is = ruling_visits s j.on j.ruled same
+
+pub returns-then-not-usable : goal.returns-then-not-usable
+unfolding tank_entered
+returns-then-not-usable c =
+    let a = c.args in
+    let ds = a.depths.now in
+    let bs = a.breadths.now in
+    let off = fails c.usable.ensures.usable_is c.if-not-usable.true in
+    answering a.self a.tank ds bs (answered_1 a.self (next a.self a.tank ds bs) (from_2 a.self a.tank ds bs) off) (rw off)
+
+judging : (n : After-judged-number)
+    → (let ruling = n in
+    let y = ruling in
+    let m = y in
+    let a = m.args in
+    Judging a.self a.tank a.depths.now a.breadths.now m.measured-measured.result y.space-x.result ruling.tank_ruling-ruling.result n.judged-number.result)
+judging n =
+    let ruling = n in
+    let y = ruling in
+    let m = y in
+    let one = m in
+    record {
+      on = holds one.usable.ensures.usable_is one.if-not-usable.false;
+      is = m.measured-measured.ensures;
+      made_of = y.space-x.ensures;
+      ruled = ruling.tank_ruling-ruling.ensures;
+      first = n.judged-number.ensures;
+    }
+
+pub returns-then-number-ne0 : goal.returns-then-number-ne0
+returns-then-number-ne0 c =
+    let a = c.args in
+    let j = judging (goal.at.returns-then-number-ne0 c).After-judged-number in
+    answering a.self a.tank a.depths.now a.breadths.now
+    (refused c.judged-number.result a.self (changed (Entered c.space-x.result) a.self) c.if-number-ne0.true ∙ change-is a.self a.tank a.depths.now a.breadths.now j)
+    (visited_is a.self a.tank a.depths.now a.breadths.now j)
+
+pub made-requires : goal.made-requires
+made-requires c =
+    places c.usable.ensures (not-false _ c.if-not-usable.false)
+
+pub noted-requires : goal.noted-requires
+noted-requires c =
+    rw c.made.ensures (fitted_open_places _ _ (open_places c.usable.ensures (not-false _ c.if-not-usable.false)))
+
+pub returns : goal.returns
+returns c =
+    let a = c.args in
+    let j = judging (goal.at.returns c).After-judged-number in
+    answering a.self a.tank a.depths.now a.breadths.now
+    (accepted c.judged-number.result a.self (Entered c.space-x.result) c.made.result c.noted.result c.if-number-ne0.false c.made.ensures c.noted.ensures
+    ∙ change-is a.self a.tank a.depths.now a.breadths.now j)
+    (visited_is a.self a.tank a.depths.now a.breadths.now j)

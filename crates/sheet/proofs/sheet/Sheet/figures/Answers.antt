@@ -1,0 +1,104 @@
+-- `Sheet::figures` meets its contract: the tests of 1, 2, 13, 14 and 21, and the figures reckoned.
+use mathlib.Core.Path.{◌≡◌, sym, ap, ◌∙◌}
+use mathlib.Core.Bool.{Bool, true, false, not, ◌&&◌}
+use mathlib.Core.List.{[], ◌∷◌}
+use Prim.Native.Nat.{ℕ, ◌≤◌}
+use Rattle.measure.proofs.Laws.Tests.{holds, fails}
+use borrow.Author.Tests.{lt-ltb, le-ltb, ne_eqb, eq-eqb}
+use lib.Dec.{eqb, ltb}
+use Rattle.measure.specs.Refusals.{first_of}
+use Rattle.spaces.specs.Row.{sum_of}
+use Rattle.spaces.specs.declared.sums.Amount.TheVariants.{Lengths}
+use Rattle.standard.specs.declared.gross.Reckoning.{Reckoning}
+use Rattle.sheet.specs.Sheet.{standing, usable}
+use Rattle.sheet.specs.Calls.{lengths_short, deductions_test, report_number, reported, reported_with}
+use Rattle.sheet.specs.declared.sheet.Sheet.{Sheet}
+use Rattle.sheet.specs.declared.calls.Figures.{Figures}
+use Rattle.sheet.proofs.Laws.Calls.{applies, passes, not_open_lem, is_open}
+use Rattle.sheet.proofs.Laws.Report.{from_2, from_13, from_14}
+use Rattle.sheet.proofs.sheet.Sheet.figures.Goals as goal
+
+-- what is told with a number
+abbrev told : ℕ → Sheet → Figures
+told n s = record { number = n; gross = (reported_with n s).gross; net = (reported_with n s).net }
+
+-- 1 and 2 are passed over, and then 13
+past-2 : (s : Sheet) (j : ℕ) → usable s ≡ true → j ≤ 1 → first_of ((not (usable s), 1) ∷ from_2 s j) ≡ first_of (from_13 s j)
+past-2 s j on one = is_open s (from_2 s j) on ∙ passes (ltb 1 j) 2 (from_13 s j) (le-ltb 1 j one)
+
+past-13 : (s : Sheet) (j : ℕ) → usable s ≡ true → j ≤ 1 → sum_of Lengths (standing s) ≡ s.length.0 → first_of ((not (usable s), 1) ∷ from_2 s j) ≡ first_of (from_14 s j)
+past-13 s j on one full =
+    past-2 s j on one ∙ passes (lengths_short s) 13 (from_14 s j) (ap not (eq-eqb (sum_of Lengths (standing s)) s.length.0 full))
+
+pub returns-then-not-usable : goal.returns-then-not-usable
+unfolding reported
+returns-then-not-usable c =
+    let a = c.args in
+    let off = not_open_lem a.self (from_2 a.self a.justified) (fails c.usable.ensures.usable_is c.if-not-usable.true) in
+    c.no_figures.ensures ∙ ap (λ (n : ℕ). told n a.self) (sym off)
+
+pub returns-then-justified-gt1 : goal.returns-then-justified-gt1
+unfolding reported
+returns-then-justified-gt1 c =
+    let a = c.args in
+    let j = a.justified in
+    let on = is_open a.self (from_2 a.self j) (holds c.usable.ensures.usable_is c.if-not-usable.false) in
+    c.no_figures-then-justified-gt1.ensures
+    ∙ ap (λ (n : ℕ). told n a.self) (sym (on ∙ applies (ltb 1 j) 2 (from_13 a.self j) (lt-ltb 1 j c.if-justified-gt1.true)))
+
+-- once the spaces are reckoned, 1 and 2 are passed over
+module _ (d : goal.After-reckon-r) where
+  abbrev sh : Sheet
+  sh = d.args.self
+
+  abbrev j : ℕ
+  j = d.args.justified
+
+  on : usable sh ≡ true
+  on = holds d.usable.ensures.usable_is d.if-not-usable.false
+
+  lengths-are : d.reckon-r.result.lengths ≡ sum_of Lengths (standing sh)
+  lengths-are = ap (λ (r : Reckoning). r.lengths) d.reckon-r.ensures
+
+  short : (d.reckon-r.result.lengths ≡ sh.length.0 → ⊥) → report_number sh j ≡ 13
+  short differ =
+      past-2 sh j on d.if-justified-gt1.false
+      ∙ applies (lengths_short sh) 13 (from_14 sh j)
+      (ap not (ne_eqb (sum_of Lengths (standing sh)) sh.length.0 (λ same. differ (lengths-are ∙ same))))
+
+  -- and then the tests of 14 and 21 decide
+  module _ (full : d.reckon-r.result.lengths ≡ sh.length.0) (t : Bool) (needed : t ≡ (d.reckon-r.result.needs_mark && eqb j 0)) where
+    left : report_number sh j ≡ first_of ((t, 14) ∷ deductions_test sh)
+    left =
+        past-13 sh j on d.if-justified-gt1.false (sym lengths-are ∙ full)
+        ∙ ap (λ (b : Bool). first_of ((b, 14) ∷ deductions_test sh)) (sym (needed ∙ ap (λ (r : Reckoning). r.needs_mark && eqb j 0) d.reckon-r.ensures))
+
+    last : t ≡ false → report_number sh j ≡ first_of ((d.reckon-r.result.deductions_pass, 21) ∷ [])
+    last justly =
+        left
+        ∙ passes t 14 (deductions_test sh) justly
+        ∙ ap (λ (r : Reckoning). first_of ((r.deductions_pass, 21) ∷ [])) (sym d.reckon-r.ensures)
+
+pub returns-then-r-self : goal.returns-then-r-self
+unfolding reported
+returns-then-r-self c =
+    c.no_figures-then-r-self.ensures ∙ ap (λ (n : ℕ). told n (sh c)) (sym (short c c.if-r-self.true))
+
+pub returns-then-unjustified : goal.returns-then-unjustified
+unfolding reported
+returns-then-unjustified c =
+    let at-14 = left c c.if-r-self.false _ c.unjustified.ensures ∙ applies _ 14 (deductions_test (sh c)) c.if-unjustified.true in
+    c.no_figures-then-unjustified.ensures ∙ ap (λ (n : ℕ). told n (sh c)) (sym at-14)
+
+pub returns-then-r : goal.returns-then-r
+unfolding reported
+returns-then-r c =
+    let at-21 = last c c.if-r-self.false _ c.unjustified.ensures c.if-unjustified.false ∙ applies _ 21 [] c.if-r.true in
+    c.no_figures-then-r.ensures ∙ ap (λ (n : ℕ). told n (sh c)) (sym at-21)
+
+pub returns : goal.returns
+unfolding reported
+returns c =
+    let none = last c c.if-r-self.false _ c.unjustified.ensures c.if-unjustified.false ∙ passes _ 21 [] c.if-r.false in
+    ap (λ (r : Reckoning). record { number = 0; gross = r.gross; net = r.net }) c.reckon-r.ensures
+    ∙ ap (λ (n : ℕ). told n (sh c)) (sym none)
