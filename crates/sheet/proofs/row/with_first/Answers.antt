@@ -1,9 +1,9 @@
 -- `row::with_first` meets its contract. The loop's invariant: up to i each is a record's space.
-use Prim.Native.Nat.{ℕ, ◌-◌, ◌≤◌}
+use Prim.Native.Nat.{ℕ, ◌-◌}
 use mathlib.Core.Path.{◌≡◌, refl, sym, ap, ap₂, ◌∙◌}
 use mathlib.Core.List.{List}
 use native.Mathlib.Omega.{arith}
-use lib.ListN.{length, get_or, set, length-map, get_or-map}
+use lib.ListN.{get_or, set, length-map, get_or-map}
 use lib.Seq.{paste}
 use Rattle.spaces.specs.Space.{empty_space, recorded, all_recorded}
 use Rattle.spaces.specs.declared.space.Space.{Space}

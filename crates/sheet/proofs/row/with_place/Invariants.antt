@@ -1,13 +1,10 @@
 -- `row::with_place` meets its contract. The loop's invariant: behind p, where x is, each up to i is the one that was before it.
-use Prim.Native.Nat.{ℕ, ◌+◌, ◌-◌, ◌≤◌, ◌<◌}
-use mathlib.Core.Path.{◌≡◌, sym, ap, ◌∙◌}
-use mathlib.Core.List.{List, ◌∷◌}
-use lib.ListN.{length, drop, get_or, set}
-use lib.Seq.{paste, get_or-set_same}
+use Prim.Native.Nat.{◌+◌, ◌-◌, ◌≤◌, ◌<◌}
+use mathlib.Core.Path.{◌≡◌}
+use mathlib.Core.List.{◌∷◌}
+use lib.ListN.{length, drop, get_or}
+use lib.Seq.{paste}
 use Rattle.spaces.specs.Space.{empty_space}
-use Rattle.spaces.specs.declared.space.Space.{Space}
-use Rattle.sheet.proofs.Laws.Row.{insert_first, insert_again}
-use native.Mathlib.Omega.{arith}
 use Rattle.sheet.proofs.row.with_place.Given as goal
 
 abbrev pub invariant-loop-i : goal.invariant-loop-i

@@ -1,7 +1,7 @@
 -- `row::without_oldest` meets its contract. The loop's invariant: up to i each is the one that was after it.
-use Prim.Native.Nat.{◌-◌, ◌<◌}
+use Prim.Native.Nat.{◌-◌}
 use mathlib.Core.Path.{◌≡◌, ap, ◌∙◌}
-use lib.ListN.{length, drop}
+use lib.ListN.{drop}
 use lib.Seq.{paste}
 use Rattle.sheet.specs.Sheet.{no_change}
 use Rattle.sheet.proofs.Laws.Row.{copy_none, shift_again}

@@ -1,7 +1,7 @@
 -- `row::without_place` meets its contract. The loop's invariant: from p up to i each is the one that was after it.
-use Prim.Native.Nat.{◌+◌, ◌-◌, ◌≤◌, ◌<◌}
+use Prim.Native.Nat.{◌+◌, ◌-◌}
 use mathlib.Core.Path.{◌≡◌, ap, ◌∙◌}
-use lib.ListN.{length, drop}
+use lib.ListN.{drop}
 use lib.Seq.{paste}
 use Rattle.spaces.specs.Space.{empty_space}
 use Rattle.sheet.proofs.Laws.Row.{copy_none, shift_again}

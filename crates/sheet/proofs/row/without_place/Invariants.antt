@@ -1,11 +1,8 @@
 -- `row::without_place` meets its contract. The loop's invariant: from p up to i each is the one that was after it.
 use Prim.Native.Nat.{◌+◌, ◌-◌, ◌≤◌, ◌<◌}
-use mathlib.Core.Path.{◌≡◌, ap, ◌∙◌}
+use mathlib.Core.Path.{◌≡◌}
 use lib.ListN.{length, drop}
 use lib.Seq.{paste}
-use Rattle.spaces.specs.Space.{empty_space}
-use Rattle.sheet.proofs.Laws.Row.{copy_none, shift_again}
-use native.Mathlib.Omega.{arith}
 use Rattle.sheet.proofs.row.without_place.Given as goal
 
 abbrev pub invariant-loop-i : goal.invariant-loop-i

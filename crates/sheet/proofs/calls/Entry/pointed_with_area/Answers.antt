@@ -1,7 +1,7 @@
 -- `Entry::pointed_with_area` meets its contract: with no end pointed, no area is looked at.
 use Prim.Native.Nat.{ℕ}
 use mathlib.Core.Path.{◌≡◌, sym}
-use mathlib.Core.Bool.{Bool, true, false, not, ◌&&◌, ◌||◌}
+use mathlib.Core.Bool.{Bool, true, false, ◌&&◌, ◌||◌}
 use mathlib.Core.List.{List}
 use Rattle.measure.specs.Ends.{end_areas}
 use Rattle.measure.specs.declared.units.Hundredths.{Hundredths}

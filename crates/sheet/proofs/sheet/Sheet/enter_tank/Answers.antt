@@ -3,7 +3,6 @@ use mathlib.Core.Path.{◌≡◌, sym, ap, ap₂, ◌∙◌}
 use mathlib.Core.Bool.{Bool, true, cond, not, ◌||◌}
 use mathlib.Core.List.{List, ◌∷◌}
 use Prim.Native.Nat.{ℕ}
-use borrow.Author.Tests.{not-false}
 use lib.Dec.{eqb}
 use Rattle.measure.specs.Refusals.{first_of}
 use Rattle.measure.specs.Tanks.{tank_in_range}
@@ -115,11 +114,11 @@ returns-then-number-ne0 c =
 
 pub made-requires : goal.made-requires
 made-requires c =
-    places c.usable.ensures (not-false _ c.if-not-usable.false)
+    places c.usable.ensures c.if-not-usable.false
 
 pub noted-requires : goal.noted-requires
 noted-requires c =
-    rw c.made.ensures (fitted_open_places _ _ (open_places c.usable.ensures (not-false _ c.if-not-usable.false)))
+    rw c.made.ensures (fitted_open_places _ _ (open_places c.usable.ensures c.if-not-usable.false))
 
 pub returns : goal.returns
 returns c =

@@ -16,6 +16,7 @@ use Rattle.sheet.specs.declared.sheet.Sheet.{Sheet}
 use Rattle.sheet.specs.declared.calls.Figures.{Figures}
 use Rattle.sheet.proofs.Laws.Calls.{applies, passes, not_open_lem, is_open}
 use Rattle.sheet.proofs.Laws.Report.{from_2, from_13, from_14}
+use Rattle.sheet.proofs.sheet.Sheet.figures.Goals.{After-reckon-r}
 use Rattle.sheet.proofs.sheet.Sheet.figures.Goals as goal
 
 -- what is told with a number
@@ -23,12 +24,12 @@ abbrev told : ℕ → Sheet → Figures
 told n s = record { number = n; gross = (reported_with n s).gross; net = (reported_with n s).net }
 
 -- 1 and 2 are passed over, and then 13
-past-2 : (s : Sheet) (j : ℕ) → usable s ≡ true → j ≤ 1 → first_of ((not (usable s), 1) ∷ from_2 s j) ≡ first_of (from_13 s j)
-past-2 s j on one = is_open s (from_2 s j) on ∙ passes (ltb 1 j) 2 (from_13 s j) (le-ltb 1 j one)
+past_2 : (s : Sheet) (j : ℕ) → usable s ≡ true → j ≤ 1 → first_of ((not (usable s), 1) ∷ from_2 s j) ≡ first_of (from_13 s j)
+past_2 s j on one = is_open s (from_2 s j) on ∙ passes (ltb 1 j) 2 (from_13 s j) (le-ltb 1 j one)
 
-past-13 : (s : Sheet) (j : ℕ) → usable s ≡ true → j ≤ 1 → sum_of Lengths (standing s) ≡ s.length.0 → first_of ((not (usable s), 1) ∷ from_2 s j) ≡ first_of (from_14 s j)
-past-13 s j on one full =
-    past-2 s j on one ∙ passes (lengths_short s) 13 (from_14 s j) (ap not (eq-eqb (sum_of Lengths (standing s)) s.length.0 full))
+past_13 : (s : Sheet) (j : ℕ) → usable s ≡ true → j ≤ 1 → sum_of Lengths (standing s) ≡ s.length.0 → first_of ((not (usable s), 1) ∷ from_2 s j) ≡ first_of (from_14 s j)
+past_13 s j on one full =
+    past_2 s j on one ∙ passes (lengths_short s) 13 (from_14 s j) (ap not (eq-eqb (sum_of Lengths (standing s)) s.length.0 full))
 
 pub returns-then-not-usable : goal.returns-then-not-usable
 unfolding reported
@@ -47,7 +48,7 @@ returns-then-justified-gt1 c =
     ∙ ap (λ (n : ℕ). told n a.self) (sym (on ∙ applies (ltb 1 j) 2 (from_13 a.self j) (lt-ltb 1 j c.if-justified-gt1.true)))
 
 -- once the spaces are reckoned, 1 and 2 are passed over
-module _ (d : goal.After-reckon-r) where
+module _ (d : After-reckon-r) where
   abbrev sh : Sheet
   sh = d.args.self
 
@@ -57,20 +58,20 @@ module _ (d : goal.After-reckon-r) where
   on : usable sh ≡ true
   on = holds d.usable.ensures.usable_is d.if-not-usable.false
 
-  lengths-are : d.reckon-r.result.lengths ≡ sum_of Lengths (standing sh)
-  lengths-are = ap (λ (r : Reckoning). r.lengths) d.reckon-r.ensures
+  lengths_are : d.reckon-r.result.lengths ≡ sum_of Lengths (standing sh)
+  lengths_are = ap (λ (r : Reckoning). r.lengths) d.reckon-r.ensures
 
   short : (d.reckon-r.result.lengths ≡ sh.length.0 → ⊥) → report_number sh j ≡ 13
   short differ =
-      past-2 sh j on d.if-justified-gt1.false
+      past_2 sh j on d.if-justified-gt1.false
       ∙ applies (lengths_short sh) 13 (from_14 sh j)
-      (ap not (ne_eqb (sum_of Lengths (standing sh)) sh.length.0 (λ same. differ (lengths-are ∙ same))))
+      (ap not (ne_eqb (sum_of Lengths (standing sh)) sh.length.0 (λ same. differ (lengths_are ∙ same))))
 
   -- and then the tests of 14 and 21 decide
   module _ (full : d.reckon-r.result.lengths ≡ sh.length.0) (t : Bool) (needed : t ≡ (d.reckon-r.result.needs_mark && eqb j 0)) where
     left : report_number sh j ≡ first_of ((t, 14) ∷ deductions_test sh)
     left =
-        past-13 sh j on d.if-justified-gt1.false (sym lengths-are ∙ full)
+        past_13 sh j on d.if-justified-gt1.false (sym lengths_are ∙ full)
         ∙ ap (λ (b : Bool). first_of ((b, 14) ∷ deductions_test sh)) (sym (needed ∙ ap (λ (r : Reckoning). r.needs_mark && eqb j 0) d.reckon-r.ensures))
 
     last : t ≡ false → report_number sh j ≡ first_of ((d.reckon-r.result.deductions_pass, 21) ∷ [])
@@ -82,23 +83,23 @@ module _ (d : goal.After-reckon-r) where
 pub returns-then-r-self : goal.returns-then-r-self
 unfolding reported
 returns-then-r-self c =
-    c.no_figures-then-r-self.ensures ∙ ap (λ (n : ℕ). told n (sh c)) (sym (short c c.if-r-self.true))
+    c.no_figures-then-r-self.ensures ∙ ap (λ (n : ℕ). told n c.args.self) (sym (short (goal.at.returns-then-r-self c).After-reckon-r c.if-r-self.true))
 
 pub returns-then-unjustified : goal.returns-then-unjustified
 unfolding reported
 returns-then-unjustified c =
-    let at-14 = left c c.if-r-self.false _ c.unjustified.ensures ∙ applies _ 14 (deductions_test (sh c)) c.if-unjustified.true in
-    c.no_figures-then-unjustified.ensures ∙ ap (λ (n : ℕ). told n (sh c)) (sym at-14)
+    let at_14 = left (goal.at.returns-then-unjustified c).After-reckon-r c.if-r-self.false _ c.unjustified.ensures ∙ applies _ 14 (deductions_test c.args.self) c.if-unjustified.true in
+    c.no_figures-then-unjustified.ensures ∙ ap (λ (n : ℕ). told n c.args.self) (sym at_14)
 
 pub returns-then-r : goal.returns-then-r
 unfolding reported
 returns-then-r c =
-    let at-21 = last c c.if-r-self.false _ c.unjustified.ensures c.if-unjustified.false ∙ applies _ 21 [] c.if-r.true in
-    c.no_figures-then-r.ensures ∙ ap (λ (n : ℕ). told n (sh c)) (sym at-21)
+    let at_21 = last (goal.at.returns-then-r c).After-reckon-r c.if-r-self.false _ c.unjustified.ensures c.if-unjustified.false ∙ applies _ 21 [] c.if-r.true in
+    c.no_figures-then-r.ensures ∙ ap (λ (n : ℕ). told n c.args.self) (sym at_21)
 
 pub returns : goal.returns
 unfolding reported
 returns c =
-    let none = last c c.if-r-self.false _ c.unjustified.ensures c.if-unjustified.false ∙ passes _ 21 [] c.if-r.false in
+    let none = last (goal.at.returns c).After-reckon-r c.if-r-self.false _ c.unjustified.ensures c.if-unjustified.false ∙ passes _ 21 [] c.if-r.false in
     ap (λ (r : Reckoning). record { number = 0; gross = r.gross; net = r.net }) c.reckon-r.ensures
-    ∙ ap (λ (n : ℕ). told n (sh c)) (sym none)
+    ∙ ap (λ (n : ℕ). told n c.args.self) (sym none)

@@ -2,7 +2,7 @@
 use mathlib.Core.Path.{◌≡◌, sym, ap, ◌∙◌}
 use Prim.Native.Nat.{ℕ}
 use Rattle.measure.proofs.Laws.Tests.{holds, fails}
-use borrow.Author.Tests.{not-false, lt-ltb, le-ltb}
+use borrow.Author.Tests.{lt-ltb, le-ltb}
 use Rattle.sheet.specs.Sheet.{standing, usable}
 use Rattle.sheet.specs.declared.changes.Change.{Change}
 use mathlib.Core.List.{◌∷◌}
@@ -69,11 +69,11 @@ returns-then-ruling-ne0 c =
 
 pub made-requires : goal.made-requires
 made-requires c =
-    places c.usable.ensures (not-false _ c.if-not-usable.false)
+    places c.usable.ensures c.if-not-usable.false
 
 pub noted-requires : goal.noted-requires
 noted-requires c =
-    rw c.made.ensures (fitted_open_places _ _ (open_places c.usable.ensures (not-false _ c.if-not-usable.false)))
+    rw c.made.ensures (fitted_open_places _ _ (open_places c.usable.ensures c.if-not-usable.false))
 
 pub returns : goal.returns
 returns c =

@@ -1,6 +1,5 @@
 -- `Sheet::open` meets its contract.
 use Rattle.measure.proofs.Laws.Tests.{holds, fails}
-use Rattle.sheet.specs.Sheet.{blank}
 use Rattle.sheet.specs.Calls.{opened_with}
 use Rattle.sheet.proofs.sheet.Sheet.open.Goals as goal
 

@@ -9,7 +9,6 @@ use lib.Dec.{eqb}
 use lib.ListN.{take}
 use Rattle.measure.proofs.Laws.Tests.{holds, fails}
 use Rattle.spaces.proofs.Laws.Row.{take_used}
-use Rattle.sheet.specs.Sheet.{blank}
 use Rattle.sheet.specs.Changes.{with_standing}
 use Rattle.standard.specs.Records.{first_refused}
 use Rattle.sheet.specs.Resume.{sheet_of, refused, resumed}

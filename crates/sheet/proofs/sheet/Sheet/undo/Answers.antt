@@ -2,8 +2,7 @@
 use mathlib.Core.Path.{sym, ap, ◌∙◌}
 use Prim.Native.Nat.{ℕ}
 use Rattle.measure.proofs.Laws.Tests.{holds, fails}
-use borrow.Author.Tests.{not-false, ne_eqb, eq-eqb}
-use Rattle.sheet.specs.Sheet.{usable}
+use borrow.Author.Tests.{ne_eqb, eq-eqb}
 use Rattle.sheet.specs.declared.changes.Change.{Change}
 use Rattle.sheet.specs.declared.sheet.Sheet.{Sheet}
 use mathlib.Core.List.{[], ◌∷◌}
@@ -47,7 +46,7 @@ bounds-changes-at c =
     omega (arith, u.undoable, u.redoable, c.if-n-eq0.false)
 
 pub taken_back-next-requires : goal.taken_back-next-requires
-taken_back-next-requires c = places c.usable.ensures (not-false _ c.if-not-usable.false)
+taken_back-next-requires c = places c.usable.ensures c.if-not-usable.false
 
 pub overflow_add-next : goal.overflow_add-next
 overflow_add-next c =

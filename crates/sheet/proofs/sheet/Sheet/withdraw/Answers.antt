@@ -4,7 +4,6 @@ use mathlib.Core.Bool.{not}
 use mathlib.Core.List.{◌∷◌}
 use Prim.Native.Nat.{ℕ}
 use Rattle.measure.proofs.Laws.Tests.{holds, fails}
-use borrow.Author.Tests.{not-false}
 use Rattle.sheet.specs.Sheet.{standing, usable}
 use Rattle.sheet.specs.declared.changes.Change.{Change}
 use Rattle.standard.specs.Rules.{withdraw_tests, withdraw_number, withdraw_ruling}
@@ -53,11 +52,11 @@ returns-then-ruling-ne0 c =
 
 pub made-requires : goal.made-requires
 made-requires c =
-    places c.usable.ensures (not-false _ c.if-not-usable.false)
+    places c.usable.ensures c.if-not-usable.false
 
 pub noted-requires : goal.noted-requires
 noted-requires c =
-    rw c.made.ensures (fitted_open_places _ _ (open_places c.usable.ensures (not-false _ c.if-not-usable.false)))
+    rw c.made.ensures (fitted_open_places _ _ (open_places c.usable.ensures c.if-not-usable.false))
 
 pub returns : goal.returns
 returns c =
