@@ -1,11 +1,11 @@
 -- `get_fields` meets its contract: the numbers read, and those of the bytes still to read, are those of all.
-use Prim.Native.Nat.{ℕ, ◌+◌, ◌-◌, ◌<◌, ◌≤◌}
+use Prim.Native.Nat.{ℕ, ◌+◌, ◌<◌, ◌≤◌}
 use mathlib.Core.Path.{◌≡◌, ap, ◌∙◌}
 use mathlib.Core.List.{[], ◌++◌, append-nil}
 use native.Mathlib.Omega.{arith}
 use lib.ListN.{length, take, drop, get_or, set, length-set, drop_of_length-le}
 use lib.Seq.{take_all}
-use Rattle.dayfile.specs.Fields.{decoded, size}
+use Rattle.dayfile.specs.Fields.{decoded}
 use Rattle.dayfile.proofs.Laws.Fields.{size_step, decoded_step, narrow_at}
 use Rattle.dayfile.proofs.fields.get_fields.Goals as goal
 
@@ -17,7 +17,7 @@ number_at-requires c =
     let l = c.loop-i in
     let a = c.args in
     let h : l.i < length a.widths.now = omega arith in
-    (omega (arith, size_step a.widths.now l.i h), narrow_at a.widths.now l.i c.requires.1)
+    (omega (arith, size_step a.widths.now l.i h), narrow_at a.widths.now l.i c.requires.narrow)
 
 pub overflow_add-at : goal.overflow_add-at
 overflow_add-at c =

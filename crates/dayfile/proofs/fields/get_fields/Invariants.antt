@@ -1,12 +1,9 @@
 -- `get_fields` meets its contract: the numbers read, and those of the bytes still to read, are those of all.
-use Prim.Native.Nat.{ℕ, ◌+◌, ◌-◌, ◌<◌, ◌≤◌}
-use mathlib.Core.Path.{◌≡◌, ap, ◌∙◌}
-use mathlib.Core.List.{[], ◌++◌, append-nil}
-use native.Mathlib.Omega.{arith}
-use lib.ListN.{length, take, drop, get_or, set, length-set, drop_of_length-le}
-use lib.Seq.{take_all}
+use Prim.Native.Nat.{◌+◌, ◌-◌, ◌≤◌}
+use mathlib.Core.Path.{◌≡◌}
+use mathlib.Core.List.{◌++◌}
+use lib.ListN.{length, take, drop}
 use Rattle.dayfile.specs.Fields.{decoded, size}
-use Rattle.dayfile.proofs.Laws.Fields.{size_step, decoded_step, narrow_at}
 use Rattle.dayfile.proofs.fields.get_fields.Given as goal
 
 abbrev pub invariant-loop-i : goal.invariant-loop-i

@@ -1,12 +1,8 @@
 -- `in_ranges` meets its contract: what is left to judge decides as the whole does.
-use Prim.Native.Nat.{◌-◌, ◌<◌, ◌≤◌}
-use mathlib.Core.Path.{◌≡◌, sym, ◌∙◌}
-use mathlib.Core.List.{[]}
-use native.Mathlib.Omega.{arith}
-use borrow.Author.Tests.{le-leb, lt-leb}
-use lib.ListN.{length, drop, drop_of_length-le}
+use Prim.Native.Nat.{◌-◌, ◌≤◌}
+use mathlib.Core.Path.{◌≡◌}
+use lib.ListN.{length, drop}
 use Rattle.dayfile.specs.Fields.{in_ranges}
-use Rattle.dayfile.proofs.Laws.Fields.{range_step}
 use Rattle.dayfile.proofs.fields.in_ranges.Given as goal
 
 abbrev pub invariant-loop-i : goal.invariant-loop-i

@@ -1,12 +1,9 @@
 -- `put_fields` meets its contract: the fields still to store, from the place reached, give what all of them give.
-use Prim.Native.Nat.{ℕ, ◌+◌, ◌-◌, ◌<◌, ◌≤◌}
-use mathlib.Core.Path.{◌≡◌, sym, ap, ◌∙◌}
-use mathlib.Core.List.{List, []}
-use native.Mathlib.Omega.{arith}
-use lib.ListN.{length, drop, get_or, drop_of_length-le}
+use Prim.Native.Nat.{◌+◌, ◌-◌, ◌≤◌}
+use mathlib.Core.Path.{◌≡◌}
+use lib.ListN.{length, drop}
 use lib.Seq.{sets}
 use Rattle.dayfile.specs.Fields.{encoded, size}
-use Rattle.dayfile.proofs.Laws.Fields.{size_step, encoded_step}
 use Rattle.dayfile.proofs.fields.put_fields.Given as goal
 
 abbrev pub invariant-loop-i : goal.invariant-loop-i

@@ -11,13 +11,13 @@ pub returns-then-not-is_form : goal.returns-then-not-is_form
 returns-then-not-is_form c =
     let a = c.args in
     let w = no_form a.from.now a.form a.at a.to.now (fails c.is_form.ensures c.if-not-is_form.true) in
-    (c.refused.ensures ∙ w.0, w.1)
+    record { answer = c.refused.ensures ∙ w.0; buffer = w.1 }
 
 pub returns-then-reading-ne0 : goal.returns-then-reading-ne0
 returns-then-reading-ne0 c =
     let a = c.args in
     let w = unread a.from.now a.form a.at a.to.now c.read-reading.result c.read-reading.ensures (holds c.is_form.ensures c.if-not-is_form.false) c.if-reading-ne0.true in
-    (c.refused-then-reading-ne0.ensures ∙ w.0, w.1)
+    record { answer = c.refused-then-reading-ne0.ensures ∙ w.0; buffer = w.1 }
 
 pub store_sheet-stored-requires : goal.store_sheet-stored-requires
 store_sheet-stored-requires c =
@@ -30,8 +30,11 @@ pub returns : goal.returns
 returns c =
     let st = c.store_sheet-stored in
     let a = c.args in
+    let w =
     read_and_written a.from.now a.form a.at a.to.now c.read-reading.result (handed_back st.result c.read-reading.result.sheet) _ c.read-reading.ensures
     (holds c.is_form.ensures c.if-not-is_form.false)
     c.if-reading-ne0.false
-    st.ensures.0
-    st.ensures.1
+    st.ensures.answer
+    st.ensures.buffer
+    in
+    record { answer = w.0; buffer = w.1 }

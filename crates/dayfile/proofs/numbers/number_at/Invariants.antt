@@ -1,12 +1,7 @@
 -- `number_at` meets its contract: from the last byte back, the number of the bytes behind the place reached.
-use Prim.Native.Nat.{ℕ, ◌+◌, ◌*◌, ◌^◌, ◌-◌, ◌<◌, ◌≤◌}
-use mathlib.Core.Path.{◌≡◌, sym, ap, ◌∙◌}
-use native.Mathlib.Nat.{add-zero, sub-zero}
-use native.Mathlib.Omega.{arith}
-use lib.Dec.{lit<}
-use lib.ListN.{take, drop, get_or}
+use Prim.Native.Nat.{◌+◌, ◌-◌, ◌≤◌}
+use lib.ListN.{take, drop}
 use Rattle.dayfile.specs.Handed.{Number}
-use Rattle.dayfile.proofs.Laws.Numbers.{byte_in_front, one_byte_more, below_next_power}
 use Rattle.dayfile.proofs.numbers.number_at.Given as goal
 
 abbrev pub invariant-loop-i : goal.invariant-loop-i

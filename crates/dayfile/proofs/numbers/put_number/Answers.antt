@@ -1,11 +1,9 @@
 -- `put_number` meets its contract: the bytes still to store, from the place reached, give what all of them give.
-use Prim.Native.Nat.{◌+◌, ◌-◌, ◌≤◌}
+use Prim.Native.Nat.{◌-◌}
 use mathlib.Core.Path.{◌≡◌, refl, sym, ◌∙◌}
 use native.Mathlib.Nat.{add-zero, sub-zero}
 use native.Mathlib.Omega.{arith}
-use lib.ListN.{length, length-set}
-use lib.Seq.{sets}
-use Rattle.dayfile.specs.Numbers.{bytes_of}
+use lib.ListN.{length-set}
 use Rattle.dayfile.proofs.Laws.Numbers.{byte_stored}
 use Rattle.std.proofs.Common.{rules}
 use Rattle.dayfile.proofs.numbers.put_number.Goals as goal

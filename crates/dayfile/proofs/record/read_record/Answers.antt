@@ -7,8 +7,8 @@ use Rattle.dayfile.proofs.record.read_record.Goals as goal
 
 pub get_fields-requires : goal.get_fields-requires
 get_fields-requires c =
-    let p = c.requires in
-    rw c.record_widths-widths.ensures ((refl, p.0), p.1)
+    rw c.record_widths-widths.ensures
+    (record { widths_len = (refl, c.requires.form_in_bounds); narrow = c.requires.narrow })
 
 pub returns : goal.returns
 returns c =

@@ -1,5 +1,5 @@
 -- `read_records` meets its contract: the spaces read, and those of the records still to read, are those of all.
-use Prim.Native.Nat.{ℕ, ◌+◌, ◌*◌, ◌-◌, ◌≤◌, zero-le}
+use Prim.Native.Nat.{ℕ, ◌+◌, ◌-◌, ◌≤◌, zero-le}
 use mathlib.Core.Path.{◌≡◌, sym, ap, ap₂, ◌∙◌}
 use mathlib.Core.List.{◌++◌, append-nil}
 use native.Mathlib.Nat.{sub-zero, mul-zero}
@@ -28,7 +28,7 @@ within : (c : In-loop-i)
 within c =
     let l = c.loop-i in
     let a = c.args in
-    omega (arith, l.invariant.1, c.requires.0.1, record_within (record_size a.form) l.i a.count c.loop-i-test.true)
+    omega (arith, l.invariant.1, c.requires.count_bound.1, record_within (record_size a.form) l.i a.count c.loop-i-test.true)
 
 pub slice_bounds-read_record-count : goal.slice_bounds-read_record-count
 slice_bounds-read_record-count c = omega (arith, within c)
@@ -37,7 +37,10 @@ pub slice_bounds-read_record-start : goal.slice_bounds-read_record-start
 slice_bounds-read_record-start c = omega (arith, within c)
 
 pub read_record-numbers-requires : goal.read_record-numbers-requires
-read_record-numbers-requires c = (simp (length-take, length-drop) (omega (arith, within (goal.at.read_record-numbers-requires c).In-loop-i)), c.requires.1)
+read_record-numbers-requires c = record {
+  form_in_bounds = simp (length-take, length-drop) (omega (arith, within (goal.at.read_record-numbers-requires c).In-loop-i));
+  narrow = c.requires.narrow;
+}
 
 pub overflow_add-at : goal.overflow_add-at
 overflow_add-at c =

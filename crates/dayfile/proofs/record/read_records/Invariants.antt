@@ -1,15 +1,10 @@
 -- `read_records` meets its contract: the spaces read, and those of the records still to read, are those of all.
-use Prim.Native.Nat.{ℕ, ◌+◌, ◌*◌, ◌-◌, ◌≤◌, zero-le}
-use mathlib.Core.Path.{◌≡◌, sym, ap, ap₂, ◌∙◌}
-use mathlib.Core.List.{◌++◌, append-nil}
-use native.Mathlib.Nat.{sub-zero, mul-zero}
-use native.Mathlib.Omega.{arith}
-use lib.ListN.{length, take, drop, set, length-set, length-take, length-drop, length-replicate}
-use Rattle.spaces.specs.declared.space.Space.{Space}
-use Rattle.dayfile.specs.Record.{record_size, record_numbers, records_in}
-use Rattle.dayfile.specs.Handed.{read_as, each_read_as}
-use Rattle.dayfile.proofs.Laws.Stores.{lent_part}
-use Rattle.dayfile.proofs.Laws.Record.{one_more_record, record_within, record_read}
+use Prim.Native.Nat.{◌*◌, ◌-◌, ◌≤◌}
+use mathlib.Core.Path.{◌≡◌}
+use mathlib.Core.List.{◌++◌}
+use lib.ListN.{length, take, drop}
+use Rattle.dayfile.specs.Record.{record_size, records_in}
+use Rattle.dayfile.specs.Handed.{each_read_as}
 use Rattle.dayfile.proofs.record.read_records.Given as goal
 
 abbrev pub invariant-loop-i : goal.invariant-loop-i

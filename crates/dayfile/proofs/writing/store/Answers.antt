@@ -20,11 +20,11 @@ use Rattle.dayfile.specs.declared.forms.Form.{Form}
 use Rattle.dayfile.specs.declared.trailer.Trailer.{Trailer}
 use Rattle.dayfile.proofs.Laws.Writing.{loses, no_room, over_gross, stored_whole}
 use Rattle.std.proofs.Common.{rules}
-use Rattle.dayfile.proofs.writing.store.Goals.{After-record_size}
+use Rattle.dayfile.proofs.writing.store.Goals.{After-too_little_room-short}
 use Rattle.dayfile.proofs.writing.store.Goals as goal
 
 -- 20, 15 and 21, as the code looks for them
-module _ (c : goal.After-too_little_room-short) where
+module _ (c : After-too_little_room-short) where
   abbrev t : Trailer
   t = c.args.trailer
 
@@ -53,19 +53,19 @@ module _ (c : goal.After-too_little_room-short) where
   full : length c.args.spaces ≡ 200
   full = search rules
 
-  form-is : c.form_of-form.result ≡ form_of t.form
-  form-is = c.form_of-form.ensures
+  form_is : c.form_of-form.result ≡ form_of t.form
+  form_is = c.form_of-form.ensures
 
-  loses-is : c.loses_number-loses.result ≡ (lost (form_of t.form).vessel vessel || loses_deck (form_of t.form) xs)
-  loses-is =
+  loses_is : c.loses_number-loses.result ≡ (lost (form_of t.form).vessel vessel || loses_deck (form_of t.form) xs)
+  loses_is =
       c.loses_number-loses.ensures
-      ∙ ap (λ (f : Form). lost f.vessel vessel || loses_deck f xs) form-is
+      ∙ ap (λ (f : Form). lost f.vessel vessel || loses_deck f xs) form_is
 
   size_is : c.sheet_size-size.result ≡ sheet_size (form_of t.form) t.count
-  size_is = c.sheet_size-size.ensures ∙ ap (λ (f : Form). sheet_size f t.count) form-is
+  size_is = c.sheet_size-size.ensures ∙ ap (λ (f : Form). sheet_size f t.count) form_is
 
-  short-is : c.too_little_room-short.result ≡ too_little_room (form_of t.form) t.count (length buffer) at
-  short-is = c.too_little_room-short.ensures ∙ ap (λ (n : ℕ). ltb (length buffer - at) n) size_is
+  short_is : c.too_little_room-short.result ≡ too_little_room (form_of t.form) t.count (length buffer) at
+  short_is = c.too_little_room-short.ensures ∙ ap (λ (n : ℕ). ltb (length buffer - at) n) size_is
 
   -- there is room for all of it
   module _ (left : c.too_little_room-short.result ≡ false) where
@@ -77,73 +77,73 @@ module _ (c : goal.After-too_little_room-short) where
 
 pub returns-then-loses : goal.returns-then-loses
 returns-then-loses c =
-    let w = loses (t c) (pass c) (vessel c) (xs c) (at c) (buffer c) (sym (loses-is c) ∙ c.if-loses.true) in
-    (c.refused.ensures ∙ w.0, w.1)
+    let w = loses c.args.trailer c.args.deductions_pass c.args.vessel (take c.args.trailer.count c.args.spaces) c.args.at c.args.buf.now (sym (loses_is (goal.at.returns-then-loses c).After-too_little_room-short) ∙ c.if-loses.true) in
+    record { answer = c.refused.ensures ∙ w.0; buffer = w.1 }
 
 pub returns-then-short : goal.returns-then-short
 returns-then-short c =
-    let w = no_room (t c) (pass c) (vessel c) (xs c) (at c) (buffer c) (sym (loses-is c) ∙ c.if-loses.false) (sym (short-is c) ∙ c.if-short.true) in
-    (c.refused-then-short.ensures ∙ w.0, w.1)
+    let w = no_room c.args.trailer c.args.deductions_pass c.args.vessel (take c.args.trailer.count c.args.spaces) c.args.at c.args.buf.now (sym (loses_is (goal.at.returns-then-short c).After-too_little_room-short) ∙ c.if-loses.false) (sym (short_is (goal.at.returns-then-short c).After-too_little_room-short) ∙ c.if-short.true) in
+    record { answer = c.refused-then-short.ensures ∙ w.0; buffer = w.1 }
 
 pub returns-then-deductions_pass : goal.returns-then-deductions_pass
 returns-then-deductions_pass c =
-    let w = over_gross (t c) (pass c) (vessel c) (xs c) (at c) (buffer c) (sym (loses-is c) ∙ c.if-loses.false) (sym (short-is c) ∙ c.if-short.false) c.if-deductions_pass.true in
-    (c.refused-then-deductions_pass.ensures ∙ w.0, w.1)
+    let w = over_gross c.args.trailer c.args.deductions_pass c.args.vessel (take c.args.trailer.count c.args.spaces) c.args.at c.args.buf.now (sym (loses_is (goal.at.returns-then-deductions_pass c).After-too_little_room-short) ∙ c.if-loses.false) (sym (short_is (goal.at.returns-then-deductions_pass c).After-too_little_room-short) ∙ c.if-short.false) c.if-deductions_pass.true in
+    record { answer = c.refused-then-deductions_pass.ensures ∙ w.0; buffer = w.1 }
 
 pub slice_bounds-write_records-count : goal.slice_bounds-write_records-count
-slice_bounds-write_records-count c = omega (arith, from_place c c.if-short.false)
+slice_bounds-write_records-count c = omega (arith, from_place (goal.at.slice_bounds-write_records-count c).After-too_little_room-short c.if-short.false)
 
 pub slice_bounds-write_records-start : goal.slice_bounds-write_records-start
-slice_bounds-write_records-start c = omega (arith, from_place c c.if-short.false)
+slice_bounds-write_records-start c = omega (arith, from_place (goal.at.slice_bounds-write_records-start c).After-too_little_room-short c.if-short.false)
 
 pub write_records-requires : goal.write_records-requires
 write_records-requires c =
     let left = c.if-short.false in (
       search rules,
-      simp (length-take, length-drop) (omega (arith, enough c left, from_place c left, c.sheet_size-size.ensures)),
+      simp (length-take, length-drop) (omega (arith, enough (goal.at.write_records-requires c).After-too_little_room-short left, from_place (goal.at.write_records-requires c).After-too_little_room-short left, c.sheet_size-size.ensures)),
     )
 
--- the records' bytes are counted, and what stands behind them has room
-ends : (c : After-record_size)
-    → (let bytes = c.record_size.result * (t c).count in
-    (bytes ≤ most_record * 200) × (at c + bytes + end_size (form_of (t c).form) ≤ length (buffer c)))
-ends c =
-    let left = c.if-short.false in
-    let n = (t c).count in
-    let many : c.record_size.result * n ≡ record_size c.form_of-form.result * n = ap (λ (m : ℕ). m * n) c.record_size.ensures.0 in (
-      le_trans (mul-le-mul_right n c.record_size.ensures.1) (mul-le-mul_left most_record (few c)),
-      omega (arith, many, enough c left, from_place c left, c.sheet_size-size.ensures, ap end_size (form-is c)),
+-- n records' bytes are counted, and what stands behind them has room
+ends : (f g : Form) (at n size r : ℕ) (buffer : List ℕ) → f ≡ g → n ≤ 200 → size ≤ length buffer - at → at ≤ length buffer → size ≡ sheet_size f n
+    → r ≡ record_size f → r ≤ most_record → (r * n ≤ most_record * 200) × (at + r * n + end_size g ≤ length buffer)
+ends f g at n size r buffer form few enough from_place size_is record_is most =
+    let many : r * n ≡ record_size f * n = ap (λ (m : ℕ). m * n) record_is in (
+      le_trans (mul-le-mul_right n most) (mul-le-mul_left most_record few),
+      omega (arith, many, enough, from_place, size_is, ap end_size form),
     )
 
 pub overflow_mul-end : goal.overflow_mul-end
-overflow_mul-end c = record { fits = omega (arith, (ends c).0) }
+overflow_mul-end c = record { fits = omega (arith, (ends c.form_of-form.result (form_of c.args.trailer.form) c.args.at c.args.trailer.count c.sheet_size-size.result c.record_size.result c.args.buf.now (form_is (goal.at.overflow_mul-end c).After-too_little_room-short) (few (goal.at.overflow_mul-end c).After-too_little_room-short) (enough (goal.at.overflow_mul-end c).After-too_little_room-short c.if-short.false) (from_place (goal.at.overflow_mul-end c).After-too_little_room-short c.if-short.false) c.sheet_size-size.ensures c.record_size.ensures.0 c.record_size.ensures.1).0) }
 
 pub overflow_add-end : goal.overflow_add-end
-overflow_add-end c = let h = (ends c).1 in search rules
+overflow_add-end c = let h = (ends c.form_of-form.result (form_of c.args.trailer.form) c.args.at c.args.trailer.count c.sheet_size-size.result c.record_size.result c.args.buf.now (form_is (goal.at.overflow_add-end c).After-too_little_room-short) (few (goal.at.overflow_add-end c).After-too_little_room-short) (enough (goal.at.overflow_add-end c).After-too_little_room-short c.if-short.false) (from_place (goal.at.overflow_add-end c).After-too_little_room-short c.if-short.false) c.sheet_size-size.ensures c.record_size.ensures.0 c.record_size.ensures.1).1 in search rules
 
 pub slice_bounds-write_end-count : goal.slice_bounds-write_end-count
-slice_bounds-write_end-count c = let h = (ends c).1 in search rules
+slice_bounds-write_end-count c = let h = (ends c.form_of-form.result (form_of c.args.trailer.form) c.args.at c.args.trailer.count c.sheet_size-size.result c.record_size.result c.args.buf.now (form_is (goal.at.slice_bounds-write_end-count c).After-too_little_room-short) (few (goal.at.slice_bounds-write_end-count c).After-too_little_room-short) (enough (goal.at.slice_bounds-write_end-count c).After-too_little_room-short c.if-short.false) (from_place (goal.at.slice_bounds-write_end-count c).After-too_little_room-short c.if-short.false) c.sheet_size-size.ensures c.record_size.ensures.0 c.record_size.ensures.1).1 in search rules
 
 pub slice_bounds-write_end-start : goal.slice_bounds-write_end-start
-slice_bounds-write_end-start c = let h = (ends c).1 in search rules
+slice_bounds-write_end-start c = let h = (ends c.form_of-form.result (form_of c.args.trailer.form) c.args.at c.args.trailer.count c.sheet_size-size.result c.record_size.result c.args.buf.now (form_is (goal.at.slice_bounds-write_end-start c).After-too_little_room-short) (few (goal.at.slice_bounds-write_end-start c).After-too_little_room-short) (enough (goal.at.slice_bounds-write_end-start c).After-too_little_room-short c.if-short.false) (from_place (goal.at.slice_bounds-write_end-start c).After-too_little_room-short c.if-short.false) c.sheet_size-size.ensures c.record_size.ensures.0 c.record_size.ensures.1).1 in search rules
 
 pub write_end-requires : goal.write_end-requires
-write_end-requires c = let h = (ends (goal.at.write_end-requires c).After-record_size).1 in search rules
+write_end-requires c = let h = (ends c.form_of-form.result (form_of c.args.trailer.form) c.args.at c.args.trailer.count c.sheet_size-size.result c.record_size.result c.args.buf.now (form_is (goal.at.write_end-requires c).After-too_little_room-short) (few (goal.at.write_end-requires c).After-too_little_room-short) (enough (goal.at.write_end-requires c).After-too_little_room-short c.if-short.false) (from_place (goal.at.write_end-requires c).After-too_little_room-short c.if-short.false) c.sheet_size-size.ensures c.record_size.ensures.0 c.record_size.ensures.1).1 in search rules
 
 pub returns : goal.returns
 returns c =
     let left = c.if-short.false in
     let f = c.form_of-form in
-    let n = (t c).count in
-    stored_whole (t c) (pass c) (vessel c) (xs c) (at c) (buffer c) _ _ _ _ _
-    (sym (loses-is c) ∙ c.if-loses.false)
-    (sym (short-is c) ∙ left)
+    let n = c.args.trailer.count in
+    let w =
+    stored_whole c.args.trailer c.args.deductions_pass c.args.vessel (take c.args.trailer.count c.args.spaces) c.args.at c.args.buf.now _ _ _ _ _
+    (sym (loses_is (goal.at.returns c).After-too_little_room-short) ∙ c.if-loses.false)
+    (sym (short_is (goal.at.returns c).After-too_little_room-short) ∙ left)
     c.if-deductions_pass.false
-    (length-take-le n (row c) (omega (arith, full c, few c)))
-    (size_is c)
-    (ap (λ (r : ℕ). at c + r * n) c.record_size.ensures.0 ∙ ap (λ (g : Form). at c + record_size g * n) (form-is c))
-    (from_place c left)
-    (enough c left)
+    (length-take-le n c.args.spaces (omega (arith, full (goal.at.returns c).After-too_little_room-short, few (goal.at.returns c).After-too_little_room-short)))
+    (size_is (goal.at.returns c).After-too_little_room-short)
+    (ap (λ (r : ℕ). c.args.at + r * n) c.record_size.ensures.0 ∙ ap (λ (g : Form). c.args.at + record_size g * n) (form_is (goal.at.returns c).After-too_little_room-short))
+    (from_place (goal.at.returns c).After-too_little_room-short left)
+    (enough (goal.at.returns c).After-too_little_room-short left)
     refl
-    (rw (form-is c) at c.write_records.ensures)
+    (rw (form_is (goal.at.returns c).After-too_little_room-short) at c.write_records.ensures)
     c.write_end.ensures
+    in
+    record { answer = w.0; buffer = w.1 }

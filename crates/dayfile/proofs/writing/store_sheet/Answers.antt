@@ -16,6 +16,7 @@ returns c =
     let reports = c.requires.0 in
     let f = figures_past_14 a.sheet a.justified a.figures reports.are reports.past_14 in
     let out = handed_out a.sheet f.is_usable in
+    let w =
     stored_is_written a.sheet a.justified a.form a.at a.buf.now _ _ _ _ _ _ _ _ _
     reports.past_14
     c.requires.1
@@ -25,5 +26,7 @@ returns c =
     f.figures_are
     (c.vessel.ensures ∙ out.vessel_is)
     (c.places.ensures ∙ out.places_are)
-    c.store.ensures.0
-    c.store.ensures.1
+    c.store.ensures.answer
+    c.store.ensures.buffer
+    in
+    record { answer = w.0; buffer = w.1 }

@@ -19,7 +19,7 @@ pub returns-then-number-ne0 : goal.returns-then-number-ne0
 returns-then-number-ne0 c =
     let a = c.args in
     let w = refused_with a.sheet a.justified a.form a.at a.buf.now _ (refusal_is (goal.at.returns-then-number-ne0 c).After-form_refusal-number) c.if-number-ne0.true in
-    (ap (λ (r : Stored). handed_back r a.sheet) c.refused.ensures ∙ w.0, w.1)
+    record { answer = ap (λ (r : Stored). handed_back r a.sheet) c.refused.ensures ∙ w.0; buffer = w.1 }
 
 pub store_sheet-requires : goal.store_sheet-requires
 store_sheet-requires c =
