@@ -79,6 +79,7 @@ pub fn figures_line(line: &[u8]) -> Line
 }
 
 // A line by forms, one a line: a call's name, and behind it what each of its words is to be.
+#[tactic(auto, using(crate::proofs::Laws::Parts::parts_counted), unfolding(crate::specs::Calls::line_by))]
 fn line_by(forms: &[u8], line: &[u8]) -> Line
     ensures { result ≡ line_by (parts_of 10 forms.now) line.now }
 {
@@ -107,6 +108,7 @@ fn is_passed(line: &[u8]) -> bool
 }
 
 // Whether a form has the line's name and, where they are counted, as many words.
+#[tactic(auto, using(crate::proofs::Laws::Parts::parts_counted))]
 fn is_form(form: &[u8], line: &[u8], counted: bool) -> bool
     ensures { result ≡ is_form counted line.now form.now }
 {
@@ -120,6 +122,7 @@ fn is_form(form: &[u8], line: &[u8], counted: bool) -> bool
 }
 
 // The place of the first such form; as many as there are forms where there is none.
+#[tactic(auto, using(crate::proofs::Laws::Parts::parts_walked))]
 fn place_by(forms: &[u8], line: &[u8], counted: bool) -> usize
     ensures { result ≡ place_by counted line.now (parts_of 10 forms.now) }
 {
@@ -137,6 +140,7 @@ fn place_by(forms: &[u8], line: &[u8], counted: bool) -> usize
 }
 
 // The place of a line's form, told by how many words there are; where none of the name has as many, it is the first of the name.
+#[tactic(auto, using(crate::proofs::Laws::Parts::parts_counted), unfolding(crate::specs::Calls::place_of))]
 fn place_of(forms: &[u8], line: &[u8]) -> usize
     ensures { result ≡ place_of line.now (parts_of 10 forms.now) }
 {
@@ -148,6 +152,7 @@ fn place_of(forms: &[u8], line: &[u8]) -> usize
 }
 
 // The words of a line, by the form of its call.
+#[tactic(auto, using(crate::proofs::Laws::Calls::words_walked))]
 fn judge(form: &[u8], line: &[u8]) -> Judged
     ensures { result ≡ judged form.now line.now }
 {
@@ -167,6 +172,7 @@ fn judge(form: &[u8], line: &[u8]) -> Judged
 }
 
 // A word, by the form's word for it.
+#[tactic(auto, unfolding(crate::specs::Calls::judged_word))]
 fn judge_word(asked: &[u8], word: &[u8]) -> Judged
     ensures { result ≡ judged_word asked.now word.now }
 {
@@ -203,6 +209,7 @@ fn judge_up_to(word: &[u8], greatest: u64, remark: Remark) -> Judged
 }
 
 // Its length is judged first, whatever its characters.
+#[tactic(auto, unfolding(crate::specs::Calls::judged_hex))]
 fn judge_hex(word: &[u8]) -> Judged
     ensures { result ≡ judged_hex word.now }
 {
@@ -230,6 +237,7 @@ fn judge_number(word: &[u8]) -> Judged
 }
 
 // Its commas are counted first, whatever stands between them.
+#[tactic(auto, using(crate::proofs::Laws::Parts::parts_counted, crate::proofs::Laws::Parts::parts_walked), unfolding(crate::specs::Calls::judged_list))]
 fn judge_list(list: &[u8]) -> Judged
     ensures { result ≡ judged_list list.now }
 {

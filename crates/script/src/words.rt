@@ -19,6 +19,7 @@ const GREATEST: u64 = 18446744073709551615;
 const GREATEST_TENS: u64 = 1844674407370955161;
 
 // The part that begins at a place, up to the mark that ends it; past the text's end an empty one.
+#[tactic(auto, using(crate::proofs::Laws::Parts::part_sliced))]
 pub fn part_at(text: &[u8], at: usize, mark: u8) -> &[u8]
     ensures { result.now ≡ first mark (drop at text.now) }
 {
@@ -30,6 +31,7 @@ pub fn part_at(text: &[u8], at: usize, mark: u8) -> &[u8]
 }
 
 // Its end; past the text's end, `at` itself.
+#[tactic(auto, using(crate::proofs::Laws::Parts::end_looked_for))]
 fn part_end(text: &[u8], at: usize, mark: u8) -> usize
     ensures { result ≡ part_end mark at text.now }
 {
@@ -44,6 +46,7 @@ fn part_end(text: &[u8], at: usize, mark: u8) -> usize
 }
 
 // Where the part behind the first k marks begins; the text's end where it has fewer.
+#[tactic(auto, using(crate::proofs::Laws::Parts::start_looked_for))]
 fn part_start(text: &[u8], k: usize, mark: u8) -> usize
     ensures upper_bound { result ≤ length text.now }
     ensures text_value { drop result text.now ≡ behind mark k text.now }
@@ -78,6 +81,7 @@ pub fn marks(text: &[u8], mark: u8) -> usize
 }
 
 // The part behind the first k marks, empty where there are fewer.
+#[tactic(auto, using(crate::proofs::Laws::Parts::part_at))]
 pub(crate) fn part(text: &[u8], k: usize, mark: u8) -> &[u8]
     ensures { result.now ≡ get_or (parts_of mark text.now) k [] }
 {
@@ -91,6 +95,7 @@ pub fn word(line: &[u8], place: usize) -> &[u8]
     part(line, place, b' ')
 }
 
+#[tactic(auto, using(crate::proofs::Laws::Parts::same_unequal))]
 pub fn same(a: &[u8], b: &[u8]) -> bool
     ensures { result ≡ same_text a.now b.now }
 {
@@ -165,6 +170,7 @@ pub(crate) fn is_letter(byte: u8) -> bool
 }
 
 // The value of digits.
+#[tactic(auto, using(crate::proofs::Laws::Numbers::digits_valued), unfolding(crate::specs::Words::held))]
 fn value_of(digits: &[u8]) -> Number
     requires { all_digits false digits.now ≡ true }
     ensures { result ≡ held (value_behind 0 digits.now) }

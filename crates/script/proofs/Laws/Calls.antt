@@ -43,3 +43,6 @@ module _ (form line : List ℕ) where
     words_ended k h =
         let e : length (words_of form) ≤ k + 1 = omega (arith, parts_counted 32 form) in
         rw (drop_of_length-le (words_of form) {i = k + 1} e)
+
+-- what the proof of a line's words cites
+pub ruleset words_walked = (wrong_number, right_number, words_ahead, words_ended)

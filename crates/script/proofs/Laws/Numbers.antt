@@ -68,3 +68,7 @@ not_digits (x ∷ xs) e = ap (λ (b : Bool). cond b (held (value_behind 0 (x ∷
 pub all_digits_lem : (xs : List ℕ) → (length xs ≡ 0 → ⊥) → all_digits false xs ≡ true → number_of xs ≡ held (value_behind 0 xs)
 all_digits_lem [] n e = absurd (n refl)
 all_digits_lem (x ∷ xs) n e = ap (λ (b : Bool). cond b (held (value_behind 0 (x ∷ xs))) NotANumber) e
+
+-- ---- what the proof of a number's value cites
+
+pub ruleset digits_valued = (too_large, value_ahead, held_whole)

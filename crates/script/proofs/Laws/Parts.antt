@@ -246,3 +246,17 @@ module _ (xs ys : List ℕ) (i : ℕ) where
 
     pub same_parted : (get_or xs i 0 ≡ get_or ys i 0 → ⊥) → same_text (drop i xs) (drop i ys) ≡ false
     same_parted n = both_ahead ∙ simp (ne_eqb _ _ n)
+
+-- ---- what a function's proof cites together
+
+-- the loop to a part's end
+pub ruleset end_looked_for = (end_found, end_passed, end_ended)
+
+-- the loop to a part's beginning
+pub ruleset start_looked_for = (behind_found, behind_passed, behind_ended)
+
+-- a part as a slice
+pub ruleset part_sliced = (part_ends, part_taken, no_part)
+
+-- the walk from part to part
+pub ruleset parts_walked = (parts_begun, parts_ahead, parts_ended)

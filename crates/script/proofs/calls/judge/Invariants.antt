@@ -1,11 +1,9 @@
 -- `calls::judge` meets its contract. The loop's invariant: the line has as many words as the form, and those from here on are judged as it is.
 use Prim.Native.Nat.{◌+◌, ◌-◌}
-use mathlib.Core.Path.{◌≡◌, sym, ◌∙◌}
-use native.Mathlib.Omega.{arith}
+use mathlib.Core.Path.{◌≡◌}
 use lib.ListN.{drop}
 use Rattle.script.specs.Words.{marks_in, words_of}
 use Rattle.script.specs.Calls.{judged_words, judged}
-use Rattle.script.proofs.Laws.Calls.{words_ahead, words_ended, wrong_number, right_number}
 use Rattle.script.proofs.calls.judge.Given as goal
 
 abbrev pub invariant-loop-k : goal.invariant-loop-k

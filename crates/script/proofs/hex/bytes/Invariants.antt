@@ -1,12 +1,9 @@
 -- `hex::bytes` meets its contract. The loop's invariant: n bytes are laid, and those of the digits ahead are still to lay.
-use Prim.Native.Nat.{ℕ, ◌+◌, ◌*◌, ◌-◌, ◌≤◌}
-use mathlib.Core.Path.{◌≡◌, refl, ap, ◌∙◌}
-use mathlib.Core.List.{◌∷◌}
-use native.Mathlib.Omega.{arith}
-use lib.ListN.{length, drop, get_or, length-set, length-drop}
-use Rattle.script.specs.Hex.{digit_value, bytes_of}
-use Rattle.script.proofs.Laws.Laid.{Laying, none_laid, one_more, all_laid, array_full}
-use Rattle.script.proofs.Laws.Hex.{byte_ahead, none_ahead}
+use Prim.Native.Nat.{◌-◌, ◌≤◌}
+use mathlib.Core.Path.{◌≡◌}
+use lib.ListN.{length, drop}
+use Rattle.script.specs.Hex.{bytes_of}
+use Rattle.script.proofs.Laws.Laid.{Laying}
 use Rattle.script.proofs.hex.bytes.Given as goal
 
 abbrev pub invariant-loop-n : goal.invariant-loop-n

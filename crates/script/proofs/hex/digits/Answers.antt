@@ -1,42 +1,31 @@
 -- `hex::digits` meets its contract. The loop's invariant: the digits of i bytes are laid, and those of the bytes that fit are still to lay.
-use Prim.Native.Nat.{◌+◌, ◌*◌, ◌-◌, ◌/◌, ◌≤◌}
+use Prim.Native.Nat.{◌+◌, ◌/◌}
 use mathlib.Core.Path.{◌≡◌, refl, ◌∙◌}
 use mathlib.Core.List.{◌∷◌}
 use native.Mathlib.Omega.{arith}
 use lib.ListN.{length, take, drop, set, length-set}
-use Rattle.script.specs.Hex.{hex_of, hex_fitting}
-use Rattle.script.proofs.Laws.Laid.{Laying, none_laid, one_more, all_laid}
+use Rattle.script.specs.Hex.{hex_of}
+use Rattle.script.proofs.Laws.Laid.{one_more, all_laid}
 use Rattle.script.proofs.Laws.Hex.{digits_ahead, digits_ended}
 use Rattle.script.proofs.hex.digits.Goals as goal
 
-pub loop-i-init : goal.loop-i-init
-loop-i-init c = (omega arith, omega arith, refl, none_laid c.before.before.args.into.now refl)
-
 pub returns-then-into-at-lt2 : goal.returns-then-into-at-lt2
 returns-then-into-at-lt2 c =
-    let l = c.before.before.loop-i in
-    let a = c.before.before.before.before.before.args in
-    all_laid l.invariant.3 (digits_ended a.bytes.now (length a.into.now / 2) l.i (omega (arith, l.invariant.1)))
-
-pub hex_digit-requires : goal.hex_digit-requires
-hex_digit-requires c = omega (arith, c.shared_slice_known-in-loop-i-1.given c.before.before.before.loop-i.i)
-
-pub bounds-into-at-in-loop-i : goal.bounds-into-at-in-loop-i
-bounds-into-at-in-loop-i c =
-    let l = c.before.before.before.before.before.loop-i in
-    rw (length-set l.into l.at c.before.hex_digit.result) (omega arith)
+    let l = c.loop-i in
+    let a = c.args in
+    let all = all_laid l.invariant.3 (digits_ended a.bytes.now (length a.into.now / 2) l.i (omega (arith, l.invariant.1))) in
+    record { value = all.0; into_after = all.1 }
 
 pub loop-i-preserved : goal.loop-i-preserved
 loop-i-preserved c =
-    let l = c.before.before.before.before.before.loop-i in
-    let a = c.before.before.before.before.before.before.before.before.args in
-    let bytes = a.bytes.now in
-    let most = length a.into.now / 2 in
-    let high = c.before.hex_digit.result in
+    let l = c.loop-i in
+    let bytes = c.args.bytes.now in
+    let most = length c.args.into.now / 2 in
+    let high = c.hex_digit.result in
     let low = c.hex_digit-in-loop-i.result in
     let left = hex_of (drop (l.i + 1) (take most bytes)) in
     let next : hex_of (drop l.i (take most bytes)) ≡ high ∷ low ∷ left =
-    digits_ahead bytes most l.i (omega arith) (omega (arith, l.invariant.1)) ∙ rw (c.before.hex_digit.ensures, c.hex_digit-in-loop-i.ensures) in
+    digits_ahead bytes most l.i (omega arith) (omega (arith, l.invariant.1)) ∙ rw (c.hex_digit.ensures, c.hex_digit-in-loop-i.ensures) in
     let again : l.at + 2 ≡ l.at + 1 + 1 = omega arith in (
       omega arith,
       omega arith,
@@ -46,6 +35,6 @@ loop-i-preserved c =
 
 pub returns : goal.returns
 returns c =
-    let l = c.before.loop-i in
-    let a = c.before.before.before.before.args in
-    all_laid l.invariant.3 (digits_ended a.bytes.now (length a.into.now / 2) l.i (omega arith))
+    let l = c.loop-i in
+    let all = all_laid l.invariant.3 (digits_ended c.args.bytes.now (length c.args.into.now / 2) l.i (omega arith)) in
+    record { value = all.0; into_after = all.1 }

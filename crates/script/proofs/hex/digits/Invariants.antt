@@ -1,12 +1,9 @@
 -- `hex::digits` meets its contract. The loop's invariant: the digits of i bytes are laid, and those of the bytes that fit are still to lay.
-use Prim.Native.Nat.{◌+◌, ◌*◌, ◌-◌, ◌/◌, ◌≤◌}
-use mathlib.Core.Path.{◌≡◌, refl, ◌∙◌}
-use mathlib.Core.List.{◌∷◌}
-use native.Mathlib.Omega.{arith}
-use lib.ListN.{length, take, drop, set, length-set}
+use Prim.Native.Nat.{◌*◌, ◌-◌, ◌/◌, ◌≤◌}
+use mathlib.Core.Path.{◌≡◌}
+use lib.ListN.{length, take, drop}
 use Rattle.script.specs.Hex.{hex_of, hex_fitting}
-use Rattle.script.proofs.Laws.Laid.{Laying, none_laid, one_more, all_laid}
-use Rattle.script.proofs.Laws.Hex.{digits_ahead, digits_ended}
+use Rattle.script.proofs.Laws.Laid.{Laying}
 use Rattle.script.proofs.hex.digits.Given as goal
 
 abbrev pub invariant-loop-i : goal.invariant-loop-i

@@ -35,16 +35,12 @@ at_its_place FileTooLong = refl
 at_its_place NotHex = refl
 at_its_place ScriptTooLong = refl
 
-same-laid : {text same : List ℕ} (array : List ℕ) {after : List ℕ} {n : ℕ} → text ≡ same
-    → (n ≡ fitting text array) × (after ≡ laid text array) → (n ≡ fitting same array) × (after ≡ laid same array)
-same-laid array e (fits, lies) = (fits ∙ ap (λ (t : List ℕ). fitting t array) e, lies ∙ ap (λ (t : List ℕ). laid t array) e)
-
 pub returns : goal.returns
 returns c =
-    let laying = c.before.before in
-    let cut = laying.before.before in
-    let told = cut.before.before in
-    let a = told.before.before.args in
-    let here : cut.part-text.result.now ≡ get_or texts told.remark_place-place.result [] = cut.part-text.ensures in
-    let text = here ∙ ap (λ (place : ℕ). get_or texts place []) told.remark_place-place.ensures ∙ at_its_place a.remark in
-    same-laid a.into-1.now text laying.lay.ensures
+    let here : c.part-text.result.now ≡ get_or texts c.remark_place-place.result [] = c.part-text.ensures in
+    let text = here ∙ ap (λ (place : ℕ). get_or texts place []) c.remark_place-place.ensures ∙ at_its_place c.args.remark in
+    let lies = c.lay.ensures in
+    record {
+      value = lies.value ∙ ap (λ (t : List ℕ). fitting t c.args.into.now) text;
+      into_after = lies.into_after ∙ ap (λ (t : List ℕ). laid t c.args.into.now) text;
+    }

@@ -1,11 +1,8 @@
 -- `words::all_digits` meets its contract. The loop's invariant: the bytes left are digits exactly if all are.
 use Prim.Native.Nat.{◌≤◌, ◌-◌}
-use mathlib.Core.Path.{◌≡◌, refl, sym, ◌∙◌}
-use borrow.Author.Tests.{not-true, not-false}
+use mathlib.Core.Path.{◌≡◌}
 use lib.ListN.{length, drop}
 use Rattle.script.specs.Words.{all_digits}
-use Rattle.script.proofs.Laws.Numbers.{digit_passed, no_digit, digits_ended}
-use native.Mathlib.Omega.{arith}
 use Rattle.script.proofs.words.all_digits.Given as goal
 
 abbrev pub invariant-loop-i : goal.invariant-loop-i

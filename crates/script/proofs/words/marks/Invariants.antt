@@ -1,12 +1,8 @@
 -- `words::marks` meets its contract. The loop's invariant: the marks left, and those counted, are all.
 use Prim.Native.Nat.{◌≤◌, ◌+◌, ◌-◌}
 use mathlib.Core.Path.{◌≡◌}
-use mathlib.Core.Logic.{⊎_elim}
-use native.Mathlib.Nat.{zero-add}
 use lib.ListN.{length, drop}
 use Rattle.script.specs.Words.{marks_in}
-use Rattle.script.proofs.Laws.Parts.{marks_found, marks_passed, marks_ended}
-use native.Mathlib.Omega.{arith}
 use Rattle.script.proofs.words.marks.Given as goal
 
 abbrev pub invariant-loop-i : goal.invariant-loop-i

@@ -1,13 +1,11 @@
 -- `words::measures` meets its contract. The loop's invariant: n measures are laid, and those of the parts ahead are still to lay.
-use Prim.Native.Nat.{ℕ, ◌+◌, ◌-◌}
-use mathlib.Core.Path.{◌≡◌, refl, sym, ap, ◌∙◌}
-use mathlib.Core.Bool.{true, false}
-use mathlib.Core.List.{List, [], ◌∷◌, map}
-use lib.ListN.{length, length-set}
-use Rattle.script.specs.Words.{measure_of, is_empty_list, measures_of}
-use Rattle.script.proofs.Laws.Laid.{Laying, none_laid, one_more, all_laid, array_full}
-use Rattle.script.proofs.Laws.Parts.{part_fits, parts_from, parts_begun, parts_ended, parts_ahead}
-use native.Mathlib.Omega.{arith}
+use Prim.Native.Nat.{◌-◌}
+use mathlib.Core.Path.{◌≡◌}
+use mathlib.Core.List.{map}
+use lib.ListN.{length}
+use Rattle.script.specs.Words.{measure_of, measures_of}
+use Rattle.script.proofs.Laws.Laid.{Laying}
+use Rattle.script.proofs.Laws.Parts.{parts_from}
 use Rattle.script.proofs.words.measures.Given as goal
 
 abbrev pub invariant-loop-n : goal.invariant-loop-n

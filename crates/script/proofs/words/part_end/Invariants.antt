@@ -1,10 +1,8 @@
 -- `words::part_end` meets its contract. The loop's invariant: the part from here on has the same end.
 use Prim.Native.Nat.{◌-◌}
-use mathlib.Core.Path.{◌≡◌, refl, sym, ◌∙◌}
+use mathlib.Core.Path.{◌≡◌}
 use lib.ListN.{length}
 use Rattle.script.specs.Words.{part_end}
-use Rattle.script.proofs.Laws.Parts.{end_found, end_passed, end_ended}
-use native.Mathlib.Omega.{arith}
 use Rattle.script.proofs.words.part_end.Given as goal
 
 abbrev pub invariant-loop-i : goal.invariant-loop-i

@@ -1,12 +1,8 @@
 -- `words::part_start` meets its contract. The loop's invariant: what is behind the marks left, from here on, is what is behind all k.
-use Prim.Native.Nat.{ℕ, ◌+◌, ◌-◌, ◌≤◌}
-use mathlib.Core.Path.{◌≡◌, refl, sym, ap, ◌∙◌}
-use mathlib.Core.List.{List}
-use mathlib.Core.Logic.{⊎_elim}
+use Prim.Native.Nat.{◌-◌, ◌≤◌}
+use mathlib.Core.Path.{◌≡◌}
 use lib.ListN.{length, drop}
 use Rattle.script.specs.Words.{behind}
-use Rattle.script.proofs.Laws.Parts.{behind_found, behind_passed, behind_ended}
-use native.Mathlib.Omega.{arith}
 use Rattle.script.proofs.words.part_start.Given as goal
 
 abbrev pub invariant-loop-i : goal.invariant-loop-i

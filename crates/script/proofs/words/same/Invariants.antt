@@ -1,10 +1,8 @@
 -- `words::same` meets its contract. The loop's invariant: what is left of the two is the same text exactly if they are.
 use Prim.Native.Nat.{◌≤◌, ◌-◌}
-use mathlib.Core.Path.{◌≡◌, refl, sym, ◌∙◌}
+use mathlib.Core.Path.{◌≡◌}
 use lib.ListN.{length, drop}
 use Rattle.script.specs.Words.{same_text}
-use Rattle.script.proofs.Laws.Parts.{same_unequal, same_passed, same_parted, same_ended}
-use native.Mathlib.Omega.{arith}
 use Rattle.script.proofs.words.same.Given as goal
 
 abbrev pub invariant-loop-i : goal.invariant-loop-i

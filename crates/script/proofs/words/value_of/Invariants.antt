@@ -1,12 +1,9 @@
 -- `words::value_of` meets its contract. The loop's invariant: the digits left, behind the value so far, have the value of all.
-use Prim.Native.Nat.{◌+◌, ◌-◌, ◌≤◌}
-use mathlib.Core.Path.{◌≡◌, refl, sym, ap, ◌∙◌}
+use Prim.Native.Nat.{◌-◌, ◌≤◌}
+use mathlib.Core.Path.{◌≡◌}
 use mathlib.Core.Bool.{true, false}
-use lib.ListN.{length, drop, get_or}
-use Rattle.script.specs.Words.{all_digits, value_behind, held}
-use Rattle.script.proofs.Laws.Numbers.{digit_here, digits_left, value_ahead, value_ended, held_whole, too_large}
-use Rattle.script.proofs.Laws.Hex.{decimal_range}
-use native.Mathlib.Omega.{arith}
+use lib.ListN.{length, drop}
+use Rattle.script.specs.Words.{all_digits, value_behind}
 use Rattle.script.proofs.words.value_of.Given as goal
 
 abbrev pub invariant-loop-i : goal.invariant-loop-i
