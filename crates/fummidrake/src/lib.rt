@@ -1,5 +1,5 @@
 // The calls for C and Rust: each hands its numbers to the call of the library that it is named for, and promises what that
-// one promises. include/fummidrake.h declares them, with a sentence for each.
+// one promises. `fummidrake_c` exports them, and include/fummidrake.h declares them, with a sentence for each.
 //
 // A slice is a pointer and a length there. No function asks anything of its caller but that the two belong together.
 #![tactic(auto)]
@@ -26,27 +26,19 @@ use measure::units::Hundredths;
 use sheet::{Changed, Counted, Entering, Entry, Reported, Sheet, Tank, TankEntering};
 use spaces::space::Space;
 
-#[unsafe(no_mangle)]
-pub extern "C" fn fummidrake_open(length: u32, vessel: u32) -> Changed
+pub fn fummidrake_open(length: u32, vessel: u32) -> Changed
     ensures { result ≡ opened_with (hundredths length) vessel }
 {
     Sheet::open(Hundredths(length), vessel)
 }
 
-#[unsafe(no_mangle)]
-pub extern "C" fn fummidrake_enter(
-    sheet: Sheet,
-    entry: Entry,
-    heights: &[u32],
-    breadths: &[u32],
-) -> Entering
+pub fn fummidrake_enter(sheet: Sheet, entry: Entry, heights: &[u32], breadths: &[u32]) -> Entering
     ensures { result ≡ entering sheet entry heights.now breadths.now }
 {
     sheet.enter(entry, heights, breadths)
 }
 
-#[unsafe(no_mangle)]
-pub extern "C" fn fummidrake_enter_tank(
+pub fn fummidrake_enter_tank(
     sheet: Sheet,
     tank: Tank,
     depths: &[u32],
@@ -57,85 +49,73 @@ pub extern "C" fn fummidrake_enter_tank(
     sheet.enter_tank(tank, depths, breadths)
 }
 
-#[unsafe(no_mangle)]
-pub extern "C" fn fummidrake_withdraw(sheet: Sheet, id: u16) -> Changed
+pub fn fummidrake_withdraw(sheet: Sheet, id: u16) -> Changed
     ensures { result ≡ withdrawn sheet id }
 {
     sheet.withdraw(id)
 }
 
-#[unsafe(no_mangle)]
-pub extern "C" fn fummidrake_mark(sheet: Sheet, id: u16, standing: u8) -> Changed
+pub fn fummidrake_mark(sheet: Sheet, id: u16, standing: u8) -> Changed
     ensures { result ≡ marked sheet id standing }
 {
     sheet.mark(id, standing)
 }
 
-#[unsafe(no_mangle)]
-pub extern "C" fn fummidrake_undo(sheet: Sheet) -> Changed
+pub fn fummidrake_undo(sheet: Sheet) -> Changed
     ensures { result ≡ undone sheet }
 {
     sheet.undo()
 }
 
-#[unsafe(no_mangle)]
-pub extern "C" fn fummidrake_redo(sheet: Sheet) -> Changed
+pub fn fummidrake_redo(sheet: Sheet) -> Changed
     ensures { result ≡ redone sheet }
 {
     sheet.redo()
 }
 
-#[unsafe(no_mangle)]
-pub extern "C" fn fummidrake_counts(sheet: Sheet) -> Counted
+pub fn fummidrake_counts(sheet: Sheet) -> Counted
     ensures { result ≡ counted sheet }
 {
     sheet.counts()
 }
 
-#[unsafe(no_mangle)]
-pub extern "C" fn fummidrake_report(sheet: Sheet, justified: u8) -> Reported
+pub fn fummidrake_report(sheet: Sheet, justified: u8) -> Reported
     ensures { result ≡ reported sheet justified }
 {
     sheet.report(justified)
 }
 
-#[unsafe(no_mangle)]
-pub extern "C" fn fummidrake_is_open(sheet: Sheet) -> bool
+pub fn fummidrake_is_open(sheet: Sheet) -> bool
     ensures { result ≡ usable sheet }
 {
     sheet.is_open()
 }
 
-#[unsafe(no_mangle)]
-pub extern "C" fn fummidrake_tonnage_length(sheet: Sheet) -> u32
+pub fn fummidrake_tonnage_length(sheet: Sheet) -> u32
     ensures { result ≡ (length_of sheet).0 }
 {
     sheet.tonnage_length().0
 }
 
-#[unsafe(no_mangle)]
-pub extern "C" fn fummidrake_vessel(sheet: Sheet) -> u32
+pub fn fummidrake_vessel(sheet: Sheet) -> u32
     ensures { result ≡ vessel_of sheet }
 {
     sheet.vessel()
 }
 
-#[unsafe(no_mangle)]
-pub extern "C" fn fummidrake_standing_count(sheet: Sheet) -> usize
+pub fn fummidrake_standing_count(sheet: Sheet) -> usize
     ensures { result ≡ standing_count sheet }
 {
     sheet.standing_count()
 }
 
-#[unsafe(no_mangle)]
-pub extern "C" fn fummidrake_space_at(sheet: Sheet, place: usize) -> Space
+pub fn fummidrake_space_at(sheet: Sheet, place: usize) -> Space
     ensures { result ≡ space_at sheet place }
 {
     sheet.space_at(place)
 }
 
-#[unsafe(no_mangle)]
-pub extern "C" fn fummidrake_stations(kind: u8, tonnage_length: u32, length: u32) -> usize
+pub fn fummidrake_stations(kind: u8, tonnage_length: u32, length: u32) -> usize
     ensures { result ≡ stations_of (kind_of kind) (hundredths tonnage_length) (hundredths length) }
 {
     stations(
@@ -145,20 +125,13 @@ pub extern "C" fn fummidrake_stations(kind: u8, tonnage_length: u32, length: u32
     )
 }
 
-#[unsafe(no_mangle)]
-pub extern "C" fn fummidrake_breadths_at_station(kind: u8, middle: u32) -> usize
+pub fn fummidrake_breadths_at_station(kind: u8, middle: u32) -> usize
     ensures { result ≡ breadths_at_station (kind_of kind) (hundredths middle) }
 {
     breadths_at_station(kind_of(kind), Hundredths(middle))
 }
 
-#[unsafe(no_mangle)]
-pub extern "C" fn fummidrake_lay_out(
-    tonnage_length: u32,
-    under_deck: u32,
-    length: u32,
-    fore: u32,
-) -> LaidOut
+pub fn fummidrake_lay_out(tonnage_length: u32, under_deck: u32, length: u32, fore: u32) -> LaidOut
     ensures { result ≡ laid_out (hundredths tonnage_length) (hundredths under_deck) (hundredths length) (hundredths fore) }
 {
     lay_out(
@@ -169,8 +142,7 @@ pub extern "C" fn fummidrake_lay_out(
     )
 }
 
-#[unsafe(no_mangle)]
-pub extern "C" fn fummidrake_section_station(
+pub fn fummidrake_section_station(
     tonnage_length: u32,
     under_deck: u32,
     length: u32,
@@ -188,44 +160,33 @@ pub extern "C" fn fummidrake_section_station(
     )
 }
 
-#[unsafe(no_mangle)]
-pub extern "C" fn fummidrake_write(
-    sheet: Sheet,
-    justified: u8,
-    form: u8,
-    buf: &mut [u8],
-    at: usize,
-) -> Written
+pub fn fummidrake_write(sheet: Sheet, justified: u8, form: u8, buf: &mut [u8], at: usize) -> Written
     ensures answer { result ≡ written sheet justified form (length buf.old) at }
     ensures buffer { buf.new ≡ written_into sheet justified form at buf.old }
 {
     dayfile::write(sheet, justified, form, buf, at)
 }
 
-#[unsafe(no_mangle)]
-pub extern "C" fn fummidrake_read(file: &[u8]) -> Reading
+pub fn fummidrake_read(file: &[u8]) -> Reading
     ensures { result ≡ read_of file.now }
 {
     dayfile::read(file)
 }
 
-#[unsafe(no_mangle)]
-pub extern "C" fn fummidrake_read_before(file: &[u8], start: usize) -> Reading
+pub fn fummidrake_read_before(file: &[u8], start: usize) -> Reading
     ensures { result ≡ read_before file.now start }
 {
     dayfile::read_before(file, start)
 }
 
-#[unsafe(no_mangle)]
-pub extern "C" fn fummidrake_move_last(from: &[u8], form: u8, to: &mut [u8], at: usize) -> Moved
+pub fn fummidrake_move_last(from: &[u8], form: u8, to: &mut [u8], at: usize) -> Moved
     ensures answer { result ≡ moved from.now form (length to.old) at }
     ensures buffer { to.new ≡ moved_into from.now form at to.old }
 {
     dayfile::move_last(from, form, to, at)
 }
 
-#[unsafe(no_mangle)]
-pub extern "C" fn fummidrake_list(file: &[u8]) -> Listing
+pub fn fummidrake_list(file: &[u8]) -> Listing
     ensures { result ≡ listed file.now }
 {
     listing::list(file)
