@@ -2,7 +2,7 @@
 -- and what stands behind them.
 use Prim.Native.Nat.{ℕ, ◌+◌, ◌*◌, ◌-◌, ◌≤◌}
 use mathlib.Core.Path.{◌≡◌, refl, sym, ap, ◌∙◌}
-use mathlib.Core.Bool.{Bool, false, ◌||◌}
+use mathlib.Core.Bool.{Bool, true, false, ◌||◌}
 use mathlib.Core.List.{List}
 use native.Mathlib.Nat.{le_trans, mul-le-mul_left, mul-le-mul_right}
 use native.Mathlib.Omega.{arith}
@@ -75,20 +75,30 @@ module _ (c : After-too_little_room-short) where
     from_place : at ≤ length buffer
     from_place = omega (arith, enough, size_is)
 
+-- what comes first in a refusal is found among the tests that the code has made on the way to it
 pub returns-then-loses : goal.returns-then-loses
 returns-then-loses c =
-    let w = loses c.args.trailer c.args.deductions_pass c.args.vessel (take c.args.trailer.count c.args.spaces) c.args.at c.args.buf.now (sym (loses_is (goal.at.returns-then-loses c).After-too_little_room-short) ∙ c.if-loses.true) in
-    record { answer = c.refused.ensures ∙ w.0; buffer = w.1 }
+    let p = (goal.at.returns-then-loses c).After-too_little_room-short in
+    let lost : c.loses_number-loses.result ≡ true = cc in
+    let w = loses (t p) (pass p) (vessel p) (xs p) (at p) (buffer p) (sym (loses_is p) ∙ lost) in
+    record { answer = cc w.0; buffer = w.1 }
 
 pub returns-then-short : goal.returns-then-short
 returns-then-short c =
-    let w = no_room c.args.trailer c.args.deductions_pass c.args.vessel (take c.args.trailer.count c.args.spaces) c.args.at c.args.buf.now (sym (loses_is (goal.at.returns-then-short c).After-too_little_room-short) ∙ c.if-loses.false) (sym (short_is (goal.at.returns-then-short c).After-too_little_room-short) ∙ c.if-short.true) in
-    record { answer = c.refused-then-short.ensures ∙ w.0; buffer = w.1 }
+    let p = (goal.at.returns-then-short c).After-too_little_room-short in
+    let kept : c.loses_number-loses.result ≡ false = cc in
+    let short : c.too_little_room-short.result ≡ true = cc in
+    let w = no_room (t p) (pass p) (vessel p) (xs p) (at p) (buffer p) (sym (loses_is p) ∙ kept) (sym (short_is p) ∙ short) in
+    record { answer = cc w.0; buffer = w.1 }
 
 pub returns-then-deductions_pass : goal.returns-then-deductions_pass
 returns-then-deductions_pass c =
-    let w = over_gross c.args.trailer c.args.deductions_pass c.args.vessel (take c.args.trailer.count c.args.spaces) c.args.at c.args.buf.now (sym (loses_is (goal.at.returns-then-deductions_pass c).After-too_little_room-short) ∙ c.if-loses.false) (sym (short_is (goal.at.returns-then-deductions_pass c).After-too_little_room-short) ∙ c.if-short.false) c.if-deductions_pass.true in
-    record { answer = c.refused-then-deductions_pass.ensures ∙ w.0; buffer = w.1 }
+    let p = (goal.at.returns-then-deductions_pass c).After-too_little_room-short in
+    let kept : c.loses_number-loses.result ≡ false = cc in
+    let enough : c.too_little_room-short.result ≡ false = cc in
+    let over : c.args.deductions_pass ≡ true = cc in
+    let w = over_gross (t p) (pass p) (vessel p) (xs p) (at p) (buffer p) (sym (loses_is p) ∙ kept) (sym (short_is p) ∙ enough) over in
+    record { answer = cc w.0; buffer = w.1 }
 
 pub slice_bounds-write_records-count : goal.slice_bounds-write_records-count
 slice_bounds-write_records-count c = omega (arith, from_place (goal.at.slice_bounds-write_records-count c).After-too_little_room-short c.if-short.false)
