@@ -32,6 +32,7 @@ use Rattle.measure_laws.proofs.Rounding.{nearest_only}
 
 -- the rounded number, b times, is below a or it isn't; either way within a half of b
 pub rounded_is : (a b : ℕ) → 0 < b → Rounded a b (nearest a b) (pos (b * nearest a b) -ℤ pos a)
+rounded_is a zero some = elim some [ ]
 rounded_is a (suc b) some = by_order x a down up
   where
     x : ℕ
@@ -59,6 +60,7 @@ rounded_is a (suc b) some = by_order x a down up
 
 -- and such a number is nearest, of which there is one
 pub rounded_only : (a b r : ℕ) (z : ℤ) → 0 < b → Rounded a b r z → (r ≡ nearest a b) × (z ≡ pos (b * nearest a b) -ℤ pos a)
+rounded_only a zero r z some h = elim some [ ]
 rounded_only a (suc b) r (pos k) some h = by_order x k none up
   where
     x : ℕ

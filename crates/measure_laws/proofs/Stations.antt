@@ -1,7 +1,7 @@
 -- The stations of a space: which breadths are a station's, which station is the middle one, and what equal values weigh.
 use Prim.Native.Nat.{ℕ, zero, suc, ◌+◌, ◌*◌, ◌/◌, ◌<◌}
 use mathlib.Core.Path.{◌≡◌, sym, ap, ◌∙◌}
-use mathlib.Core.List.{List, ◌∷◌, ◌++◌}
+use mathlib.Core.List.{List, [], ◌∷◌, ◌++◌}
 use native.Mathlib.Nat.{zero-add, add-zero, zero-mul, suc-mul, add-mul}
 use native.Mathlib.Numerals.{add-one}
 use native.Mathlib.Omega.{arith}
@@ -23,6 +23,7 @@ areas_are m depths breadths = record { as_many = length_areas m depths breadths;
   where
     each : (ds bs : List ℕ) (i : ℕ) → i < length ds
         → get_or (areas m ds bs) i 0 ≡ station_area m (hundredths (get_or ds i 0)) (take (m + 1) (drop (i * (m + 1)) bs))
+    each [] bs i h = elim h [ ]
     each (d ∷ ds) bs zero h =
         ap (λ (at : ℕ). station_area m (hundredths d) (take (m + 1) (drop at bs))) (sym (zero-mul (m + 1)))
     each (d ∷ ds) bs (suc i) h =
