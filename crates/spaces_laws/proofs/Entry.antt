@@ -7,7 +7,6 @@ use mathlib.Core.Option.{some}
 use native.Mathlib.Omega.{arith}
 use borrow.Author.Tests.{ltb-false, leb-false, le-ltb, lt-leb, not-true, not-false}
 use lib.Dec.{ltb}
-use lib.ListN.{length}
 use Rattle.measure.specs.declared.units.Hundredths.{Hundredths}
 use Rattle.measure.specs.Refusals.{none as no_more}
 use Rattle.measure_laws.proofs.Refusals.{accepted}

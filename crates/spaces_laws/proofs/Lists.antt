@@ -5,9 +5,9 @@ use mathlib.Core.Bool.{Bool, true, false, ◌&&◌}
 use mathlib.Core.List.Memᴰ
 use mathlib.Core.List.{List, [], ◌∷◌, ◌++◌}
 use mathlib.Core.Option.{Option, none, some}
-use mathlib.Core.Logic.{◌⊎◌, inl, inr}
+use mathlib.Core.Logic.{◌⊎◌, inl, inr, ⊎_elim}
 use native.Mathlib.Omega.{arith}
-use borrow.Author.Tests.{eqb-true, eq-eqb, ne_eqb}
+use borrow.Author.Tests.{eqb-true, eqb-false, eq-eqb, ne_eqb}
 use lib.Dec.{eqb}
 use lib.ListN.{length, get_or}
 use Rattle.spaces.specs.declared.space.Space.{Space}
@@ -58,9 +58,15 @@ found_stands id xs {z} e =
 
 -- where an id isn't found, no space has it
 pub unfound_absent : (id : ℕ) {xs : List Space} {z : Space} → find id xs ≡ none → z ∈ xs → z.id ≡ id → ⊥
-unfound_absent id {xs = x ∷ xs} {z} e (Memᴰ.head q) h = none_not_some e (find_here id x xs (cc))
-unfound_absent id {xs = x ∷ xs} {z} e (Memᴰ.tail m) h =
-    by_test (eqb x.id id) (λ t. none_not_some e (find_here id x xs (eqb-true _ _ t))) (λ f. unfound_absent id (rw f at e) m h)
+unfound_absent id {xs = []} {z} e m h = Memᴰ.not-nil m
+unfound_absent id {xs = x ∷ xs} {z} e m h =
+    by_test (eqb x.id id)
+    (λ t. none_not_some e (find_here id x xs (eqb-true _ _ t)))
+    (λ f.
+    ⊎_elim
+    (λ (q : z ≡ x). eqb-false _ _ f (sym (ap (λ (s : Space). s.id) q) ∙ h))
+    (λ (k : z ∈ xs). unfound_absent id {xs = xs} {z = z} (rw f at e) k h)
+    (Memᴰ.cases_cons m))
 
 pub some_of : (o : Option Space) → is_some o ≡ true → (z : Space) × (o ≡ some z)
 some_of none e = not_both e refl
@@ -95,8 +101,12 @@ sum_of_sums f g [] = refl
 sum_of_sums f g (x ∷ xs) = omega (arith, sum_of_sums f g xs)
 
 pub one_within_sum : (f : Space → ℕ) {xs : List Space} {z : Space} → z ∈ xs → f z ≤ sum_by f xs
-one_within_sum f {xs = x ∷ xs} {z} (Memᴰ.head q) = let e : f z ≡ f x = ap f q in omega arith
-one_within_sum f {xs = x ∷ xs} {z} (Memᴰ.tail m) = omega (arith, one_within_sum f m)
+one_within_sum f {xs = []} {z} m = absurd (Memᴰ.not-nil m)
+one_within_sum f {xs = x ∷ xs} {z} m =
+    ⊎_elim
+    (λ (q : z ≡ x). let e : f z ≡ f x = ap f q in omega arith)
+    (λ (k : z ∈ xs). omega (arith, one_within_sum f {xs = xs} {z = z} k))
+    (Memᴰ.cases_cons m)
 
 pub sum_of_none : (f : Space → ℕ) (xs : List Space) → ((y : Space) → y ∈ xs → f y ≡ 0) → sum_by f xs ≡ 0
 sum_of_none f [] h = refl

@@ -23,10 +23,10 @@ use Rattle.spaces_laws.proofs.Valid.{valid_is_sound}
 use Rattle.spaces_laws.proofs.Levels.{level_exactly}
 
 -- a walk counts them as far as it has levels left
-counted : (left : ℕ) (xs : List Space) {x : Space} {n : ℕ} → VisitedIs xs x n → length (upward left xs x) ≡ min n left
-counted left xs {x} (not_enclosed e) = omega (arith, ap length (upward_none left xs x e))
-counted zero xs (one_more e v) = omega arith
-counted (suc left) xs {x} (one_more e v) = omega (arith, ap length (upward_next left xs x e), counted left xs v)
+counted : (xs : List Space) (left : ℕ) {x : Space} {n : ℕ} → VisitedIs xs x n → length (upward left xs x) ≡ min n left
+counted xs left {x} (not_enclosed e) = omega (arith, ap length (upward_none left xs x e))
+counted xs zero (one_more e v) = omega arith
+counted xs (suc left) {x} (one_more e v) = omega (arith, ap length (upward_next left xs x e), counted xs left v)
 
 -- and one that ended with levels left has counted all
 all_counted : (left : ℕ) (xs : List Space) (x : Space) → length (upward left xs x) < left → VisitedIs xs x (length (upward left xs x))
@@ -41,7 +41,7 @@ all_counted (suc left) xs x h =
 -- of any spaces, and 8 for each past 8
 pub visited_told : (xs : List Space) {x : Space} {n : ℕ} → VisitedIs xs x n → visited xs x ≡ min n 8
 unfolding above
-visited_told xs v = counted 8 xs v
+visited_told xs v = counted xs 8 v
 
 pub visited_exactly : (xs : List Space) (x : Space) (n : ℕ) → n < 8 → (visited xs x ≡ n) ↔ VisitedIs xs x n
 unfolding above

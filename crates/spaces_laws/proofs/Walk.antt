@@ -130,8 +130,10 @@ level_of_room xs y {z} e =
 -- ---- all plain, one by one
 
 pub plain_of_all : {zs : List Space} {z : Space} → all_plain zs ≡ true → z ∈ zs → is_plain z ≡ true
-plain_of_all {zs = t ∷ zs} {z} e (Memᴰ.head q) = ap is_plain q ∙ (and_holds (is_plain t) (all_plain zs) e).0
-plain_of_all {zs = t ∷ zs} {z} e (Memᴰ.tail m) = plain_of_all (and_holds (is_plain t) (all_plain zs) e).1 m
+plain_of_all {zs = []} {z} e m = absurd (Memᴰ.not-nil m)
+plain_of_all {zs = t ∷ zs} {z} e m =
+    let (first, rest) = and_holds (is_plain t) (all_plain zs) e in
+    ⊎_elim (λ (q : z ≡ t). ap is_plain q ∙ first) (λ (k : z ∈ zs). plain_of_all {zs = zs} {z = z} rest k) (Memᴰ.cases_cons m)
 
 pub all_plain_of : (zs : List Space) → ((z : Space) → z ∈ zs → is_plain z ≡ true) → all_plain zs ≡ true
 all_plain_of [] h = refl
@@ -141,8 +143,12 @@ all_plain_of (z ∷ zs) h =
 -- ---- what is below
 
 among_of : (id : ℕ) {zs : List Space} {z : Space} → z ∈ zs → z.id ≡ id → among id zs ≡ true
-among_of id {zs = t ∷ zs} {z} (Memᴰ.head q) e = rw (eq-eqb t.id id (sym (ap (λ (s : Space). s.id) q) ∙ e))
-among_of id {zs = t ∷ zs} {z} (Memᴰ.tail m) e = by_test (eqb t.id id) (λ y. rw y) (λ n. rw n (among_of id m e))
+among_of id {zs = []} {z} m e = absurd (Memᴰ.not-nil m)
+among_of id {zs = t ∷ zs} {z} m e =
+    ⊎_elim
+    (λ (q : z ≡ t). rw (eq-eqb t.id id (sym (ap (λ (s : Space). s.id) q) ∙ e)))
+    (λ (k : z ∈ zs). by_test (eqb t.id id) (λ y. rw y) (λ n. rw n (among_of id {zs = zs} {z = z} k e)))
+    (Memᴰ.cases_cons m)
 
 some_among : (id : ℕ) (zs : List Space) → among id zs ≡ true → (z : Space) × (z ∈ zs) × (z.id ≡ id)
 some_among id [] e = not_both e refl
@@ -152,10 +158,14 @@ some_among id (t ∷ zs) e =
     (λ n. let r = some_among id zs (rw n at e) in (r.0, Memᴰ.tail r.1, r.2))
 
 below_of_these : (id : ℕ) (xs : List Space) {ys : List Space} {y : Space} → y ∈ ys → among id (above xs y) ≡ true → y ∈ below_of id xs ys
-below_of_these id xs {ys = t ∷ ys} {y} (Memᴰ.head q) e =
-    rw (subst (λ (s : Space). among id (above xs s) ≡ true) q e) (Memᴰ.head q)
-below_of_these id xs {ys = t ∷ ys} {y} (Memᴰ.tail m) e =
-    by_test (among id (above xs t)) (λ a. rw a (Memᴰ.tail (below_of_these id xs m e))) (λ a. rw a (below_of_these id xs m e))
+below_of_these id xs {ys = []} {y} m e = absurd (Memᴰ.not-nil m)
+below_of_these id xs {ys = t ∷ ys} {y} m e =
+    ⊎_elim
+    (λ (q : y ≡ t). rw (subst (λ (s : Space). among id (above xs s) ≡ true) q e) (Memᴰ.head q))
+    (λ (k : y ∈ ys).
+    let below = below_of_these id xs {ys = ys} {y = y} k e in
+    by_test (among id (above xs t)) (λ a. rw a (Memᴰ.tail below)) (λ a. rw a below))
+    (Memᴰ.cases_cons m)
 
 these_below : (id : ℕ) (xs ys : List Space) {y : Space} → y ∈ below_of id xs ys → (y ∈ ys) × (among id (above xs y) ≡ true)
 these_below id xs [] m = absurd (Memᴰ.not-nil m)
