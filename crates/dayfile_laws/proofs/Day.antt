@@ -39,7 +39,8 @@ every_file (suc n) file h =
 pub readings_determined : {file : List ℕ} {all : List Reading} → Day file all → (n : ℕ) → sheets_in n file ≡ take n all
 readings_determined day zero = refl
 readings_determined (none refused) (suc n) = rw (ne_eqb _ 0 refused)
-readings_determined (last {file = file} read earlier) (suc n) = rw (eq-eqb (read_of file).number 0 read, readings_determined earlier n)
+readings_determined {file} (last read earlier) (suc n) =
+    rw (eq-eqb (read_of file).number 0 read, readings_determined {file = take (read_of file).start file} earlier n)
 
 -- and it has no others
 pub only_these : {file : List ℕ} {all others : List Reading} → Day file all → Day file others → all ≡ others
@@ -76,7 +77,7 @@ found_behind {file} {earlier} (first ∷ later) w found =
     length-append file bytes ∙ ap (λ (n : ℕ). length file + n) (length_bytes s mark form w.0) in
     subst (λ (n : ℕ). Day (file ++ (bytes ++ day_bytes later)) (reverse_aux (readings n later) (r ∷ earlier))) end
     (subst (λ (l : List ℕ). Day l (reverse_aux (readings (length (file ++ bytes)) later) (r ∷ earlier))) (append_assoc file bytes (day_bytes later))
-    (found_behind later w.1 (one_more s mark form w.0 found)))
+    (found_behind {file = file ++ bytes} later w.1 (one_more s mark form w.0 found)))
 
 -- sheets behind a file are found before those of the file, the last first
 pub sheets_behind : {file : List ℕ} {earlier : List Reading} (day : List SheetWritten) → AllWritable day → Day file earlier

@@ -119,7 +119,7 @@ reading_of frameless numbers all vessel start =
 
 reading_is : (file : List ℕ) → read_of file ≡ reading_of (no_sheet file) (last_numbers file) (last_records file) (last_vessel file) (start_of file)
 unfolding read_of read_number fault_in sheet_in reading_of
-reading_is file = refl
+reading_is _ = refl
 
 at_another_start : (frameless : Bool) (numbers : List ℕ) (all : List (List ℕ)) (vessel start other : ℕ)
     → reading_of frameless numbers all vessel other ≡ starting_at other (reading_of frameless numbers all vessel start)

@@ -116,7 +116,7 @@ records_written f L before (suc n) bytes all long none =
     let v = record_numbers f bytes in
     let later = drop size bytes in
     let (sound, none-later) = none_first f L before v (records_in f n later) none in
-    let fit = not-false _ (or_fails (not (fitting (record_fields f) v)) _ sound).0 in
+    let fit : fitting (record_fields f) v ≡ true = not-false _ (or_fails (not (fitting (record_fields f) v)) _ sound).0 in
     let more : size + size * n ≡ size * suc n = omega (arith, mul-suc size n) in
     let others =
     records_written f L (before ++ (space_of v ∷ [])) n later (at_most_drop size all) (rw length-drop (omega (arith, more))) none-later in
