@@ -16,10 +16,10 @@ from typing import Iterator
 
 THEOREM = Path('crates/demands/proofs/NoSecondAnswer.antt')
 ROWS = '-- ---- the rows\n'  # what follows this line is as this program prints it
-USES = re.compile(r'(?:^use Rattle·\w+\.proofs as \w+\n)+', re.M)
+USES = re.compile(r"(?:^use Rattle\.\w+\.(?:proofs|specs\.contracts) as \w+'?\n)+", re.M)
 
 MODULE = re.compile(r'^pub mod (\w+);', re.M)
-EXPORTED = re.compile(r'^pub use (\w+)::(\w+);', re.M)
+EXPORTED = re.compile(r'^pub use (\w+)::(?:(\w+)|\{([^}]*)\});', re.M)
 TYPE = re.compile(r'^(?:pub )?(?:struct|enum) (\w+)', re.M)
 IMPL = re.compile(r'^impl (\w+) \{$.*?^\}$', re.M | re.S)
 HEAD = re.compile(r'^[ \t]*pub (?:extern "C" )?fn (\w+)\(', re.M)
@@ -27,13 +27,14 @@ PARAMETER = re.compile(r'(?:^|,)\s*(?:mut )?(self\b|\w+\s*:[^,]*)')
 LENT = re.compile(r"&(?:'\w+ )?mut ")
 PART = re.compile(r'\s*->\s*&')
 BODY = re.compile(r'^[ \t]*\{$', re.M)
-AND_MORE = re.compile(r'⌜ \((?:now )?r ≡')
+ENSURES = re.compile(r'^[ \t]*ensures(?: \w+)? \{\s*(.*)', re.M)
+AND_MORE = re.compile(r'\(result(?:\.now)? ≡')
 
 
 @dataclass
 class Function:
     """A public function: where the check keeps its contract, which parameters are lent to change, whether it answers a part of a
-    slice, and whether its contract says more of the answer than what it equals."""
+    slice, and whether its contract says more than what the answer equals."""
     crate: str
     path: str
     lent: list[bool]
@@ -42,24 +43,24 @@ class Function:
 
     def name(self) -> str:
         own = self.path.rpartition('.')[2].removeprefix(f'{self.crate}_')
-        return f'{self.crate}-{own}'.replace('_', '-')
+        return f'{self.crate}_{own}'
 
     def row(self) -> str:
         """The statement and its proof, as `rt fmt` leaves them."""
-        contract = f'{self.crate}.{self.path}'
-        says, view = ('OneBy', ' (λ lives. now)') if self.part else ('One', '')
-        return (f'pub {self.name()} :\n    {says} {contract}.ended {contract}.Reads.Asked {contract}.Reads.Learnt{view}\n'
+        ended, reads = f"{self.crate}'.{self.path}.ended", f'{self.crate}.{self.path}.Reads'
+        says, view = ('OneBy', ' (λ lives. (λ x. x.now))') if self.part else ('One', '')
+        return (f'pub {self.name()} :\n    {says} {ended} {reads}.Asked {reads}.Learnt{view}\n'
                 f'{self.name()} _ ={self.proof()}\n')
 
     def proof(self) -> str:
         if not any(self.lent):
-            answer = 'λ p q. agree (p .0) (q .0)' if self.and_more else 'agree'
-            return f' record {{ nothing-asked = tt; one-answer = {answer}; one-left = λ p q. refl }}'
+            answer = 'λ p q. agree p.0 q.0' if self.and_more else 'agree'
+            return f' record {{ nothing_asked = tt; one_answer = {answer}; one_left = λ p q. refl }}'
         left = 'tt'
         for lent in reversed(self.lent):
             left = f'({"b" if lent else "tt"}, {left})'
-        return ('\n    record { nothing-asked = tt; one-answer = λ p q. agree (p .0) (q .0); '
-                f'one-left = λ p q. ap (λ b. {left}) (agree (p .1) (q .1)) }}')
+        return ('\n    record { nothing_asked = tt; one_answer = λ p q. agree p.0 q.0; '
+                f'one_left = λ p q. ap (λ b. {left}) (agree p.1 q.1) }}')
 
 
 def closing(text: str, at: int) -> int:
@@ -76,7 +77,7 @@ def public_functions(crate: str) -> Iterator[Function]:
     source = Path('crates', crate, 'src')
     texts = {path.stem: re.sub(r'//[^\n]*', '', path.read_text()) for path in sorted(source.glob('*.rt'))}
     modules = set(MODULE.findall(texts['lib']))
-    exported = {(module, name) for module, name in EXPORTED.findall(texts['lib'])}
+    exported = {(module, name) for module, *names in EXPORTED.findall(texts['lib']) for name in re.findall(r'\w+', ' '.join(names))}
     homes = {name: module for module, text in texts.items() for name in TYPE.findall(text)}
     for module, text in texts.items():
         methods = [(block.start(), block.end(), block[1]) for block in IMPL.finditer(text)]
@@ -89,7 +90,8 @@ def public_functions(crate: str) -> Iterator[Function]:
             end = closing(text, head.end())
             lent = [bool(LENT.search(each)) for each in PARAMETER.findall(text[head.end():end - 1])]
             contract = text[end:BODY.search(text, end).start()]
-            yield Function(crate, path, lent, bool(PART.match(contract)), bool(AND_MORE.search(contract)))
+            ensured = ENSURES.findall(contract)
+            yield Function(crate, path, lent, bool(PART.match(contract)), len(ensured) > 1 or any(map(AND_MORE.match, ensured)))
 
 
 def libraries() -> list[str]:
@@ -101,7 +103,7 @@ def libraries() -> list[str]:
 def theorem(text: str) -> str:
     """The theorem's file as it is to be."""
     functions = {crate: found for crate in libraries() if (found := list(public_functions(crate)))}
-    uses = ''.join(f'use Rattle·{crate}.proofs as {crate}\n' for crate in sorted(functions))
+    uses = ''.join(f"use Rattle.{crate}.proofs as {crate}\nuse Rattle.{crate}.specs.contracts as {crate}'\n" for crate in sorted(functions))
     rows = [f'-- {crate}\n' + '\n'.join(each.row() for each in functions[crate]) for crate in functions]
     return USES.sub(uses, text.partition(ROWS)[0]) + ROWS + '\n' + '\n'.join(rows)
 

@@ -110,8 +110,9 @@ never_given {n = n} none (further {test = test} {tests = tests} a) = never_given
 pub applies_last : (tests : List (Bool × ℕ)) (b : Bool) (n : ℕ) → without n tests ≡ true → Applies (tests ++ ((b, n) ∷ [])) n ↔ (b ≡ true)
 applies_last [] b n none = (here, applies_first)
   where
-    here : {b : Bool} → Applies ((b, n) ∷ []) n → b ≡ true
+    here : {b : Bool} {m k : ℕ} → Applies ((b, m) ∷ []) k → b ≡ true
     here first = refl
+    here (further x) = elim x [ ]
 applies_last (test ∷ tests) b n none =
     let others = applies_last tests b n (and_right (not (eqb test.1 n)) (without n tests) none) in
     (λ a. others.0 (behind (another n test.1 (without n tests) none) a), λ t. further (others.1 t))
