@@ -125,9 +125,8 @@ returns-then-not-usable c =
     (rw off)
     c.refused.ensures
 
-judging : (c : After-judged-number)
-    → (let a = c.args in
-    Judging a.self a.entry a.heights.now a.breadths.now c.measure_offsets-offsets.result c.m_of.result c.space-x.result c.entry_ruling-ruling.result c.judged-number.result)
+judging : (c : After-judged-number) → let a = c.args in
+    Judging a.self a.entry a.heights.now a.breadths.now c.measure_offsets-offsets.result c.m_of.result c.space-x.result c.entry_ruling-ruling.result c.judged-number.result
 judging c = record {
   on = holds c.usable.ensures.usable_is c.if-not-usable.false;
   offsets_are = c.measure_offsets-offsets.ensures;

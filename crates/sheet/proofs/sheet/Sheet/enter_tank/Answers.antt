@@ -31,15 +31,15 @@ module _ (s : Sheet) (k : Tank) (ds bs : List ℕ) where
   next = changed (Entered x) s
 
   -- the tests behind those of measuring, and behind that of 1
-  abbrev from-4 : List (Bool × ℕ)
-  from-4 = tank_tests s.length (standing s) x k.fore
+  abbrev from_4 : List (Bool × ℕ)
+  from_4 = tank_tests s.length (standing s) x k.fore
 
   abbrev from_2 : List (Bool × ℕ)
   from_2 =
       (out_of_range k.standing k.deck, 2)
       ∷ (not (tank_in_range k.length k.fore ds bs), 2)
       ∷ (sections_wrong s.length (standing s) k ds bs, 3)
-      ∷ from-4
+      ∷ from_4
 
   -- what is answered beside a change
   answering : {n v : ℕ} {after : Sheet} → record { number = n; sheet = after } ≡ tank_entered s k ds bs → v ≡ visited_for s x
@@ -66,12 +66,12 @@ module _ (s : Sheet) (k : Tank) (ds bs : List ℕ) where
         let u = under_deck_with k.within (standing s) in
         j.first
         ∙ rw (j.ruled, same, j.is)
-        (ap (λ (i : ℕ). cond (out_of_range k.standing k.deck) 2 i) (judged_by_number s.length u.length u.m k.length k.fore ds bs from-4))
+        (ap (λ (i : ℕ). cond (out_of_range k.standing k.deck) 2 i) (judged_by_number s.length u.length u.m k.length k.fore ds bs from_4))
         ∙ sym (is_open s from_2 j.on)
 
-    change-is : answered n s (changed (Entered y) s) ≡ tank_entered s k ds bs
+    change_is : answered n s (changed (Entered y) s) ≡ tank_entered s k ds bs
     unfolding tank_entered
-    change-is = ap₂ (λ (i : ℕ) (z : Space). answered i s (changed (Entered z) s)) number_is same
+    change_is = ap₂ (λ (i : ℕ) (z : Space). answered i s (changed (Entered z) s)) number_is same
 
     visited_is : ruling.visited ≡ visited_for s x
     visited_is = ruling_visits s j.on j.ruled same
@@ -85,31 +85,22 @@ returns-then-not-usable c =
     let off = fails c.usable.ensures.usable_is c.if-not-usable.true in
     answering a.self a.tank ds bs (answered_1 a.self (next a.self a.tank ds bs) (from_2 a.self a.tank ds bs) off) (rw off)
 
-judging : (n : After-judged-number)
-    → (let ruling = n in
-    let y = ruling in
-    let m = y in
-    let a = m.args in
-    Judging a.self a.tank a.depths.now a.breadths.now m.measured-measured.result y.space-x.result ruling.tank_ruling-ruling.result n.judged-number.result)
-judging n =
-    let ruling = n in
-    let y = ruling in
-    let m = y in
-    let one = m in
-    record {
-      on = holds one.usable.ensures.usable_is one.if-not-usable.false;
-      is = m.measured-measured.ensures;
-      made_of = y.space-x.ensures;
-      ruled = ruling.tank_ruling-ruling.ensures;
-      first = n.judged-number.ensures;
-    }
+judging : (c : After-judged-number) → let a = c.args in
+    Judging a.self a.tank a.depths.now a.breadths.now c.measured-measured.result c.space-x.result c.tank_ruling-ruling.result c.judged-number.result
+judging c = record {
+  on = holds c.usable.ensures.usable_is c.if-not-usable.false;
+  is = c.measured-measured.ensures;
+  made_of = c.space-x.ensures;
+  ruled = c.tank_ruling-ruling.ensures;
+  first = c.judged-number.ensures;
+}
 
 pub returns-then-number-ne0 : goal.returns-then-number-ne0
 returns-then-number-ne0 c =
     let a = c.args in
     let j = judging (goal.at.returns-then-number-ne0 c).After-judged-number in
     answering a.self a.tank a.depths.now a.breadths.now
-    (refused c.judged-number.result a.self (changed (Entered c.space-x.result) a.self) c.if-number-ne0.true ∙ change-is a.self a.tank a.depths.now a.breadths.now j)
+    (refused c.judged-number.result a.self (changed (Entered c.space-x.result) a.self) c.if-number-ne0.true ∙ change_is a.self a.tank a.depths.now a.breadths.now j)
     (visited_is a.self a.tank a.depths.now a.breadths.now j)
 
 pub made-requires : goal.made-requires
@@ -126,5 +117,5 @@ returns c =
     let j = judging (goal.at.returns c).After-judged-number in
     answering a.self a.tank a.depths.now a.breadths.now
     (accepted c.judged-number.result a.self (Entered c.space-x.result) c.made.result c.noted.result c.if-number-ne0.false c.made.ensures c.noted.ensures
-    ∙ change-is a.self a.tank a.depths.now a.breadths.now j)
+    ∙ change_is a.self a.tank a.depths.now a.breadths.now j)
     (visited_is a.self a.tank a.depths.now a.breadths.now j)

@@ -36,36 +36,39 @@ returns-then-standing-gt-GREATEST_STANDING c =
     (lt-ltb greatest_standing a.standing c.if-standing-gt-GREATEST_STANDING.true)
 
 -- the number is the definition's, and the change that of the space found
-number_is : (c : After-mark_ruling-ruling) → (c.mark_ruling-ruling.result.number ≡ first_of (mark_tests (standing c.args.self) c.args.id c.args.standing))
+number_is : (c : After-mark_ruling-ruling) → c.mark_ruling-ruling.result.number ≡ first_of (mark_tests (standing c.args.self) c.args.id c.args.standing)
 unfolding mark_number mark_ruling
 number_is c = ap (λ (r : Ruling). r.number) c.mark_ruling-ruling.ensures
 
-change-is : (c : After-mark_ruling-ruling) → (let r = c.mark_ruling-ruling.result in Marked r.place r.space.standing c.args.standing ≡ marking c.args.self c.args.id c.args.standing)
+change_is : (c : After-mark_ruling-ruling) → let r = c.mark_ruling-ruling.result in
+    Marked r.place r.space.standing c.args.standing ≡ marking c.args.self c.args.id c.args.standing
 unfolding mark_ruling
-change-is c =
-    let st = c.args.standing in
-    ap (λ (r : Ruling). Marked r.place r.space.standing st) c.mark_ruling-ruling.ensures
+change_is c = ap (λ (r : Ruling). Marked r.place r.space.standing c.args.standing) c.mark_ruling-ruling.ensures
 
 -- the sheet is open and the standing in its range: the number is the ruling's
-ruled : (c : After-mark_ruling-ruling) → (first_of ((not (usable c.args.self), 1) ∷ (ltb greatest_standing c.args.standing, 2) ∷ mark_tests (standing c.args.self) c.args.id c.args.standing) ≡ c.mark_ruling-ruling.result.number)
+ruled : (c : After-mark_ruling-ruling) → let sh = c.args.self in
+    let st = c.args.standing in
+    first_of ((not (usable sh), 1) ∷ (ltb greatest_standing st, 2) ∷ mark_tests (standing sh) c.args.id st) ≡ c.mark_ruling-ruling.result.number
 ruled c =
     let sh = c.args.self in
     let st = c.args.standing in
     let on = holds c.usable.ensures.usable_is c.if-not-usable.false in
-    within sh (ltb greatest_standing st) (mark_tests (standing sh) c.args.id st) on (le-ltb greatest_standing st c.if-standing-gt-GREATEST_STANDING.false) ∙ sym (number_is c)
+    within sh (ltb greatest_standing st) (mark_tests (standing sh) c.args.id st) on (le-ltb greatest_standing st c.if-standing-gt-GREATEST_STANDING.false)
+    ∙ sym (number_is c)
 
 -- what the ruling says
-judged : (n : After-mark_ruling-ruling) → (let s = n in let sh = s.args.self in answered n.mark_ruling-ruling.result.number sh (changed (marking sh s.args.id s.args.standing) sh) ≡ marked sh s.args.id s.args.standing)
+judged : (c : After-mark_ruling-ruling) → let sh = c.args.self in
+    answered c.mark_ruling-ruling.result.number sh (changed (marking sh c.args.id c.args.standing) sh) ≡ marked sh c.args.id c.args.standing
 unfolding marked
-judged n =
-    let s = n in
-    let sh = s.args.self in
-    ap (λ (k : ℕ). answered k sh (changed (marking sh s.args.id s.args.standing) sh)) (sym (ruled n))
+judged c =
+    let sh = c.args.self in
+    ap (λ (k : ℕ). answered k sh (changed (marking sh c.args.id c.args.standing) sh)) (sym (ruled c))
 
 pub returns-then-ruling-ne0 : goal.returns-then-ruling-ne0
 returns-then-ruling-ne0 c =
     let sh = c.args.self in
-    refused c.mark_ruling-ruling.result.number sh (changed (marking sh c.args.id c.args.standing) sh) c.if-ruling-ne0.true ∙ judged (goal.at.returns-then-ruling-ne0 c).After-mark_ruling-ruling
+    refused c.mark_ruling-ruling.result.number sh (changed (marking sh c.args.id c.args.standing) sh) c.if-ruling-ne0.true
+    ∙ judged (goal.at.returns-then-ruling-ne0 c).After-mark_ruling-ruling
 
 pub made-requires : goal.made-requires
 made-requires c =
@@ -79,9 +82,7 @@ pub returns : goal.returns
 returns c =
     let sh = c.args.self in
     let r = c.mark_ruling-ruling.result in
-    accepted r.number sh (Marked r.place r.space.standing c.args.standing) c.made.result c.noted.result
-    c.if-ruling-ne0.false
-    c.made.ensures
-    c.noted.ensures
-    ∙ ap (λ (x : Change). answered r.number sh (changed x sh)) (change-is (goal.at.returns c).After-mark_ruling-ruling)
-    ∙ judged (goal.at.returns c).After-mark_ruling-ruling
+    let ruling = (goal.at.returns c).After-mark_ruling-ruling in
+    accepted r.number sh (Marked r.place r.space.standing c.args.standing) c.made.result c.noted.result c.if-ruling-ne0.false c.made.ensures c.noted.ensures
+    ∙ ap (λ (x : Change). answered r.number sh (changed x sh)) (change_is ruling)
+    ∙ judged ruling

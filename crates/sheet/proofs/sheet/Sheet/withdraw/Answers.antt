@@ -23,32 +23,34 @@ returns-then-not-usable c =
     answered_1 sh (changed (withdrawal sh a.id) sh) (withdraw_tests (standing sh) a.id) (fails c.usable.ensures.usable_is c.if-not-usable.true)
 
 -- the number is the definition's, and the change that of the space found
-number_is : (c : After-withdraw_ruling-ruling) → (c.withdraw_ruling-ruling.result.number ≡ first_of (withdraw_tests (standing c.args.self) c.args.id))
+number_is : (c : After-withdraw_ruling-ruling) → c.withdraw_ruling-ruling.result.number ≡ first_of (withdraw_tests (standing c.args.self) c.args.id)
 unfolding withdraw_number withdraw_ruling
 number_is c = ap (λ (r : Ruling). r.number) c.withdraw_ruling-ruling.ensures
 
-change-is : (c : After-withdraw_ruling-ruling) → (let r = c.withdraw_ruling-ruling.result in Withdrawn r.place r.space ≡ withdrawal c.args.self c.args.id)
+change_is : (c : After-withdraw_ruling-ruling) → let r = c.withdraw_ruling-ruling.result in Withdrawn r.place r.space ≡ withdrawal c.args.self c.args.id
 unfolding withdraw_ruling
-change-is c = ap (λ (r : Ruling). Withdrawn r.place r.space) c.withdraw_ruling-ruling.ensures
+change_is c = ap (λ (r : Ruling). Withdrawn r.place r.space) c.withdraw_ruling-ruling.ensures
 
 -- the sheet is open: the number is the ruling's
-ruled : (c : After-withdraw_ruling-ruling) → (first_of ((not (usable c.args.self), 1) ∷ withdraw_tests (standing c.args.self) c.args.id) ≡ c.withdraw_ruling-ruling.result.number)
+ruled : (c : After-withdraw_ruling-ruling) → let sh = c.args.self in
+    first_of ((not (usable sh), 1) ∷ withdraw_tests (standing sh) c.args.id) ≡ c.withdraw_ruling-ruling.result.number
 ruled c =
     let tests = withdraw_tests (standing c.args.self) c.args.id in
     is_open c.args.self tests (holds c.usable.ensures.usable_is c.if-not-usable.false) ∙ sym (number_is c)
 
 -- what the ruling says
-judged : (n : After-withdraw_ruling-ruling) → (let s = n in let sh = s.args.self in answered n.withdraw_ruling-ruling.result.number sh (changed (withdrawal sh s.args.id) sh) ≡ withdrawn sh s.args.id)
+judged : (c : After-withdraw_ruling-ruling) → let sh = c.args.self in
+    answered c.withdraw_ruling-ruling.result.number sh (changed (withdrawal sh c.args.id) sh) ≡ withdrawn sh c.args.id
 unfolding withdrawn
-judged n =
-    let s = n in
-    let sh = s.args.self in
-    ap (λ (k : ℕ). answered k sh (changed (withdrawal sh s.args.id) sh)) (sym (ruled n))
+judged c =
+    let sh = c.args.self in
+    ap (λ (k : ℕ). answered k sh (changed (withdrawal sh c.args.id) sh)) (sym (ruled c))
 
 pub returns-then-ruling-ne0 : goal.returns-then-ruling-ne0
 returns-then-ruling-ne0 c =
     let sh = c.args.self in
-    refused c.withdraw_ruling-ruling.result.number sh (changed (withdrawal sh c.args.id) sh) c.if-ruling-ne0.true ∙ judged (goal.at.returns-then-ruling-ne0 c).After-withdraw_ruling-ruling
+    refused c.withdraw_ruling-ruling.result.number sh (changed (withdrawal sh c.args.id) sh) c.if-ruling-ne0.true
+    ∙ judged (goal.at.returns-then-ruling-ne0 c).After-withdraw_ruling-ruling
 
 pub made-requires : goal.made-requires
 made-requires c =
@@ -62,9 +64,7 @@ pub returns : goal.returns
 returns c =
     let sh = c.args.self in
     let r = c.withdraw_ruling-ruling.result in
-    accepted r.number sh (Withdrawn r.place r.space) c.made.result c.noted.result
-    c.if-ruling-ne0.false
-    c.made.ensures
-    c.noted.ensures
-    ∙ ap (λ (x : Change). answered r.number sh (changed x sh)) (change-is (goal.at.returns c).After-withdraw_ruling-ruling)
-    ∙ judged (goal.at.returns c).After-withdraw_ruling-ruling
+    let ruling = (goal.at.returns c).After-withdraw_ruling-ruling in
+    accepted r.number sh (Withdrawn r.place r.space) c.made.result c.noted.result c.if-ruling-ne0.false c.made.ensures c.noted.ensures
+    ∙ ap (λ (x : Change). answered r.number sh (changed x sh)) (change_is ruling)
+    ∙ judged ruling
