@@ -133,6 +133,7 @@ impl Sheet {
         next
     }
 
+    #[tactic(auto, using(crate::proofs::Laws::Changes::put_in, crate::proofs::Laws::Changes::place_in_too_many))]
     fn with(self, p: usize, x: Space) -> Sheet
         requires { Places self }
         ensures { result ≡ fitted (inserted p x (standing_of self)) self }

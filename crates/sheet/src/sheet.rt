@@ -49,6 +49,7 @@ impl Sheet {
     }
 
     // Open, with counts that a call could have handed back.
+    #[tactic(auto, unfolding(crate::specs::Sheet::usable))]
     pub(crate) fn usable(self) -> bool
         ensures { Judged self result }
     {

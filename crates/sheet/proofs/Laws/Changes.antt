@@ -122,7 +122,7 @@ module _ (s : Sheet) (whole : Places s) where
           ∙ sym (inserted_behind s.count x (omega arith))
           ∙ ap (λ (k : ℕ). inserted k x (standing s)) (sym m)
 
-  pub place_in : (p : ℕ) (x : Space) → s.count < 200
+  place_in : (p : ℕ) (x : Space) → s.count < 200
       → placed (paste s.spaces (min p s.count) (x ∷ drop (min p s.count) s.spaces) (s.count + 1 - min p s.count)) (s.count + 1) s ≡ fitted (inserted p x (standing s)) s
   place_in p x h =
       let sp = s.spaces in
@@ -141,6 +141,12 @@ module _ (s : Sheet) (whole : Places s) where
     where
       next : (at : ℕ) → at ≤ s.count → suc (s.count - at) ≡ s.count + 1 - at
       next at m = omega arith
+
+  -- a row in which the space was put in at that place
+  pub put_in : (p : ℕ) (x : Space) → s.count < 200 → (row : List Space)
+      → row ≡ paste s.spaces (min p s.count) (x ∷ drop (min p s.count) s.spaces) (s.count + 1 - min p s.count)
+      → placed row (s.count + 1) s ≡ fitted (inserted p x (standing s)) s
+  put_in p x h row e = ap (λ (r : List Space). placed r (s.count + 1) s) e ∙ place_in p x h
 
   pub place_in_too_many : (p : ℕ) (x : Space) → 200 ≤ s.count → s ≡ fitted (inserted p x (standing s)) s
   place_in_too_many p x h =
