@@ -214,4 +214,4 @@ module _ (file : List ℕ) (read : (read_of file).number ≡ 0) where
   pub read_of_records : Bytes file → let s = (read_of file).sheet in OfRecords s.length s.vessel (standing s) s
   read_of_records bytes =
       let s = (read_is_writable bytes).sheet in
-      record { length_in_range = s.length_in_range; resumable = s.resumable; without_m_lem = read_without_m; sheet_is = sym read_again }
+      record { length_in_range = s.length_in_range; resumable = s.resumable; without_m = read_without_m; sheet_is = sym read_again }

@@ -223,7 +223,7 @@ has_read_back s justified form start w =
     record {
       accepted = refl;
       same_spaces = rw (standing_same L v xs) (recorded_same (standing s));
-      without_m_lem = standing_same L v xs;
+      without_m = standing_same L v xs;
       same_length = length_same L v xs;
       same_vessel = vessel_same L v xs;
       same_mark = refl;

@@ -12,7 +12,7 @@ pub record ReadBack (s : Sheet) (justified form start : ℕ) (r : Reading) : Typ
   pub accepted : r.number ≡ 0
   -- the same spaces, in the same order: each standing space, its m gone
   pub same_spaces : SameSpaces (standing s) (standing r.sheet)
-  pub without_m_lem : standing r.sheet ≡ all_recorded (standing s)
+  pub without_m : standing r.sheet ≡ all_recorded (standing s)
   pub same_length : r.sheet.length ≡ s.length
   pub same_vessel : r.sheet.vessel ≡ s.vessel
   pub same_mark : r.justified ≡ justified

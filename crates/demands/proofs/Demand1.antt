@@ -370,7 +370,7 @@ refused_read_gives file refused =
     (λ t. absurd (refused (rw t)))
     (λ f.
     record {
-      not_open_lem = rw f;
+      not_open = rw f;
       mark_0 = rw f;
       start_0 = rw f;
       form_0 = rw f;

@@ -37,7 +37,7 @@ pub begun_without_m : {L : Hundredths} {start : List Space} {first : Sheet} → 
 begun_without_m {L} {start} {first} begun =
     let o = begun_of_records begun in
     let same = ap standing o.sheet_is ∙ standing_same L first.vessel start in
-    ap all_recorded same ∙ o.without_m_lem ∙ sym same
+    ap all_recorded same ∙ o.without_m ∙ sym same
 
 -- writes leave the sheet to the other calls
 pub writes_change_nothing : (calls : List DayCall) (s : Sheet) → after_day calls s ≡ after (without_writes calls) s

@@ -136,7 +136,7 @@ pub record Given17 (file : List ℕ) : Type 0 where
 -- "A refused .. read hands back a sheet not open, mark 0, start 0", and form 0. 17 "with the position, from 1, of the first such record",
 -- and "The position is 0 for every number but 17."
 pub record NothingRead (file : List ℕ) : Type 0 where
-  pub not_open_lem : usable (read_of file).sheet ≡ false
+  pub not_open : usable (read_of file).sheet ≡ false
   pub mark_0 : (read_of file).justified ≡ 0
   pub start_0 : (read_of file).start ≡ 0
   pub form_0 : (read_of file).form ≡ 0

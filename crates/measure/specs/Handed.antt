@@ -25,7 +25,7 @@ pub record StationHanded (m : ℕ) (d : Hundredths) (breadths : List ℕ) : Type
 
 -- sections in m parts of depth: a U's stations, at most 17, or a tank's sections, at most two for each of so many stations
 pub record SectionsHanded (m : ℕ) (depths breadths : List ℕ) : Type 0 where
-  pub depth_parts_lem : EvenParts m
+  pub depth_parts : EvenParts m
   pub few : length depths ≤ 34
   pub count : length breadths ≡ length depths * (m + 1)
   pub deep : AllAtMost 20000 depths

@@ -81,7 +81,7 @@ nearest_parts t n l = nearest_of t n l even_numbers
 -- `nearest_parts` is such a number, and no other is (measure_laws, Parts).
 pub record NearestEven (t : Hundredths) (n : ℕ) (l : Hundredths) (p : ℕ) : Type 0 where
   pub even : EvenParts p
-  pub nearest_of_lem : (k : ℕ) → EvenParts k → distance t n l p * k ≤ distance t n l k * p
+  pub nearest_of : (k : ℕ) → EvenParts k → distance t n l p * k ≤ distance t n l k * p
   pub greater_of : (k : ℕ) → EvenParts k → distance t n l p * k ≡ distance t n l k * p → k ≤ p
 
 -- "An S takes the even number from 2 to 16 whose interval is nearest .. to the tonnage length divided by its number" (69.113(b)(2))

@@ -37,7 +37,7 @@ sections_over (two ∷ later) = cond two 2 1 + sections_over later
 unfoldable pub sections : Layout → ℕ
 sections a = sections_over (doubled a)
 
--- the number, from 1, of the under_deck station in whose zone a tank station lies, of two the fore one
+-- the number, from 1, of the under-deck station in whose zone a tank station lies, of two the fore one
 unfoldable pub zone_of_station : Layout → ℕ → ℕ
 zone_of_station a j = zone_of a.n a.u (station_at a j)
 

@@ -98,6 +98,6 @@ laid_out t u l f =
     let a = layout_of t u l f in
     record { number = n; parts = cond (eqb n 0) a.p 0; sections = cond (eqb n 0) (sections a) 0 }
 
--- the number of the under_deck station in whose zone section i, from 0, falls; 0 where there is no such section
+-- the number of the under-deck station in whose zone section i, from 0, falls; 0 where there is no such section
 unfoldable pub section_station : Hundredths → Hundredths → Hundredths → Hundredths → ℕ → ℕ
 section_station t u l f i = cond (eqb (lay_out_number t u l f) 0) (get_or (section_zones (layout_of t u l f)) i 0) 0

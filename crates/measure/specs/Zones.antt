@@ -1,4 +1,4 @@
--- Zones of influence (69.117(g)(3)(ii)): "Each under_deck station has a zone of as many thirds of the interval as its multiplier, and the
+-- Zones of influence (69.117(g)(3)(ii)): "Each under-deck station has a zone of as many thirds of the interval as its multiplier, and the
 -- zones fill the length with no gap." Everywhere n is the number of parts of the U and u its length. Points along the U are exact
 -- fractions, compared by products: no quotient is taken.
 use Rattle.std.specs.Prelude.{ℕ, zero, suc, ◌+◌, ◌*◌, ◌≤◌, Bool, false, cond, ◌||◌, eqb, ltb}

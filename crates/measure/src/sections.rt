@@ -20,7 +20,7 @@ pub struct Layout {
     pub f: Hundredths,
 }
 
-// How a tank station lies among the zones: the number, from 1, of the under_deck station in whose zone it is, of two the fore one, and
+// How a tank station lies among the zones: the number, from 1, of the under-deck station in whose zone it is, of two the fore one, and
 // whether it falls exactly between two.
 #[derive(Clone, Copy)]
 pub(crate) struct Zoned {
@@ -123,7 +123,7 @@ pub(crate) fn sections_over(two: [bool; 17], stations: usize) -> usize
     count
 }
 
-// The number, from 1, of the under_deck station in whose zone section i, from 0, falls; 0 where there is no such section.
+// The number, from 1, of the under-deck station in whose zone section i, from 0, falls; 0 where there is no such section.
 pub(crate) fn section_zone(a: Layout, i: usize) -> usize
     requires { Laid a }
     ensures { result ≡ get_or (section_zones a) i 0 }

@@ -207,7 +207,7 @@ pub fn lay_out(
     }
 }
 
-// The number, from 1, of the under_deck station inside whose section the tank's section i, from 0, is measured; 0 where there is no such
+// The number, from 1, of the under-deck station inside whose section the tank's section i, from 0, is measured; 0 where there is no such
 // section.
 pub fn section_station(
     tonnage_length: Hundredths,

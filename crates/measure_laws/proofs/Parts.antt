@@ -92,7 +92,7 @@ nearest_parts_is t n l =
     let r = next p2 (next p4 (next p6 (next p8 (next p10 (next p12 (next p14 (last f))))))) in
     record {
       even = r.even;
-      nearest_of_lem = λ k p. r.near k p (least p);
+      nearest_of = λ k p. r.near k p (least p);
       greater_of = λ k p. r.high k p (least p);
     }
   where
@@ -104,8 +104,8 @@ nearest_parts_is t n l =
 
 pub nearest_parts_only : (t : Hundredths) (n : ℕ) (l : Hundredths) (p q : ℕ) → NearestEven t n l p → NearestEven t n l q → p ≡ q
 nearest_parts_only t n l p q r s =
-    let a = r.nearest_of_lem q s.even in
-    let b = s.nearest_of_lem p r.even in
+    let a = r.nearest_of q s.even in
+    let b = s.nearest_of p r.even in
     le_antisymm (s.greater_of p r.even (le_antisymm b a)) (r.greater_of q s.even (le_antisymm a b))
 
 -- where the interval of a length is the reference for that length, its own number of parts is the nearest
@@ -115,7 +115,7 @@ nearest_to_itself {n} u even some =
     nearest_parts_only u n u (nearest_parts u n u) n (nearest_parts_is u n u)
     (record {
       even = even;
-      nearest_of_lem = λ k q. omega (arith, at_itself k);
+      nearest_of = λ k q. omega (arith, at_itself k);
       greater_of = λ k q e.
           let z : distance u n u k * n ≡ 0 * n = sym e ∙ at_itself k ∙ sym (zero-mul n) in
           let none : distance u n u k ≡ 0 = eq_of_mul-eq-mul_right n (omega (arith, least even)) (distance u n u k) 0 z in

@@ -1,4 +1,4 @@
--- The entry of a tank (T-01 of document 02): "Add an under_deck tank entry by 69.117(g)(3)".
+-- The entry of a tank (T-01 of document 02): "Add an under-deck tank entry by 69.117(g)(3)".
 use Rattle.std.specs.Prelude.{ℕ, Bool, not, ◌&&◌, List, ◌∷◌}
 use Rattle.measure.specs.Refusals.{first_of}
 use Rattle.measure.specs.Sections.{layout_of}

@@ -84,7 +84,7 @@ pub opened_of_records : (L : Hundredths) (vessel : ℕ) → (opened_with L vesse
 unfolding opened_with blank
 opened_of_records L vessel z =
     by_test (includes tonnage_lengths L.0)
-    (λ t. record { length_in_range = t; resumable = (resumable_exactly L []).0 refl; without_m_lem = refl; sheet_is = rw t })
+    (λ t. record { length_in_range = t; resumable = (resumable_exactly L []).0 refl; without_m = refl; sheet_is = rw t })
     (λ f. let two : ◌≡◌ {A = ℕ} 2 0 = rw f at z in absurd (omega arith))
 
 -- and one resumed, on which its records stand, their m gone
@@ -97,7 +97,7 @@ resumed_of_records L vessel records z =
     by_test (eqb (first_refused L [] records).number 0)
     (λ u.
     let none : (first_refused L [] (all_recorded records)).number ≡ 0 = ap (λ (r : RefusedRecord). r.number) (first_refused_recorded L [] records) ∙ eqb-true _ _ u in
-    record { length_in_range = t; resumable = (resumable_exactly L (all_recorded records)).0 none; without_m_lem = recorded_twice records; sheet_is = rw (t, u) })
+    record { length_in_range = t; resumable = (resumable_exactly L (all_recorded records)).0 none; without_m = recorded_twice records; sheet_is = rw (t, u) })
     (λ f. absurd (eqb-false _ _ f (rw (t, f) at z))))
     (λ f. let two : ◌≡◌ {A = ℕ} 2 0 = rw f at z in absurd (omega arith))
 

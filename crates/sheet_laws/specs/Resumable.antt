@@ -21,5 +21,5 @@ pub record OfRecords (L : Hundredths) (vessel : ℕ) (records : List Space) (s :
   pub length_in_range : includes tonnage_lengths L.0 ≡ true
   pub resumable : Resumable L records
   -- "0 for every space read from a file or resumed"
-  pub without_m_lem : all_recorded records ≡ records
+  pub without_m : all_recorded records ≡ records
   pub sheet_is : s ≡ with_standing records (blank true L vessel)

@@ -99,7 +99,7 @@ walked_by (suc left) n ids withins kinds standings kind within =
 pub record Charted (spaces : List Space) (n : ℕ) (homes owns standings : List ℕ) : Type 0 where
   pub home_of : EnclosingPlaces (take n spaces) homes
   pub own_of : Places true (take n spaces) owns
-  pub standing_of_lem : standings ≡ standings_of spaces
+  pub standing_of : standings ≡ standings_of spaces
 
 -- the place asked, among n ids
 abbrev pub asked_in : Bool → Space → List ℕ → ℕ → ℕ

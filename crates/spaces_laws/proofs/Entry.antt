@@ -69,11 +69,11 @@ facts_of_entry L xs x e =
       id_at_most = ltb-false _ _ range.1;
       id_free = none_of _ ids.1;
       enclosed = enclosed;
-      may_take_lem = not-false _ takes.0;
+      may_take = not-false _ takes.0;
       level_at_most = ltb-false _ _ shallow;
-      plain_above_lem = λ p. not-false _ (and_fails _ _ once (ap not p));
+      plain_above = λ p. not-false _ (and_fails _ _ once (ap not p));
       rooms_fit = rooms_fit_of xs x enclosed fits.0;
-      lengths_fit_lem = λ u. ltb-false _ _ (and_fails _ _ fits.1 u);
+      lengths_fit = λ u. ltb-false _ _ (and_fails _ _ fits.1 u);
       place_left = leb-false _ _ place_left;
     }
 
@@ -82,10 +82,10 @@ unfolding entry_number
 entry_of_facts L xs x a =
     let range : (ltb x.id 1 || ltb 9999 x.id) ≡ false = or_fails_of _ _ (le-ltb _ _ a.id_at_least) (le-ltb _ _ a.id_at_most) in
     let id_free : id_refused xs x ≡ false = or_fails_of _ _ range (ap is_some a.id_free) in
-    let placed : misplaced xs x ≡ false = or_fails_of _ _ (ap not a.may_take_lem) (not_in_hatchway xs x a.enclosed) in
+    let placed : misplaced xs x ≡ false = or_fails_of _ _ (ap not a.may_take) (not_in_hatchway xs x a.enclosed) in
     let shallow : too_deep xs x ≡ false = le-ltb _ _ a.level_at_most in
-    let once : off_twice xs x ≡ false = and_fails_of _ _ (λ p. ap not (a.plain_above_lem (not-true _ p))) in
-    let lengths : (is_under_deck x && ltb L.0 (sum_of Lengths xs + x.length.0)) ≡ false = and_fails_of _ _ (λ u. le-ltb _ _ (a.lengths_fit_lem u)) in
+    let once : off_twice xs x ≡ false = and_fails_of _ _ (λ p. ap not (a.plain_above (not-true _ p))) in
+    let lengths : (is_under_deck x && ltb L.0 (sum_of Lengths xs + x.length.0)) ≡ false = and_fails_of _ _ (λ u. le-ltb _ _ (a.lengths_fit u)) in
     let fits : overfull L xs x ≡ false = or_fails_of _ _ (not_passed xs x a.enclosed a.rooms_fit) lengths in
     let place : no_place xs ≡ false = lt-leb _ _ a.place_left in
     let from-7 = together shallow (together once (together fits (together place no_more))) in

@@ -49,8 +49,8 @@ facts_of_mark xs id standing e =
     record {
       it = s.0;
       it_stands = s.1;
-      may_take_lem = not-false _ (rw s.1 at takes);
-      plain_above_lem = λ p. rw s.1 at (plain_both xs id standing once p).0;
+      may_take = not-false _ (rw s.1 at takes);
+      plain_above = λ p. rw s.1 at (plain_both xs id standing once p).0;
       plain_below = λ p. (plain_both xs id standing once p).1;
     }
 
@@ -58,12 +58,12 @@ pub mark_of_facts : (xs : List Space) (id standing : ℕ) → Markable xs id sta
 unfolding mark_number
 mark_of_facts xs id standing m =
     let stood : not (stands id xs) ≡ false = rw m.it_stands in
-    let takes : cannot_take (find id xs) standing ≡ false = rw m.it_stands (ap not m.may_take_lem) in
+    let takes : cannot_take (find id xs) standing ≡ false = rw m.it_stands (ap not m.may_take) in
     let once : marked_twice xs id standing ≡ false = and_fails_of _ _ (λ p. ap not (plain (not-true _ p))) in
     accepted (together stood (together takes (together once no_more)))
   where
     plain : eqb standing 0 ≡ false → (plain_above xs (find id xs) && all_plain (below id xs)) ≡ true
-    plain p = rw (m.it_stands, m.plain_above_lem p) (m.plain_below p)
+    plain p = rw (m.it_stands, m.plain_above p) (m.plain_below p)
 
 -- ---- the spaces as they stand after a mark
 
@@ -95,7 +95,7 @@ module _ (id standing : ℕ) where
 
   module _ (L : Hundredths) (pre : List Space) (x : Space) (a : Accepted L pre x) (s : Suits (above pre x) x) where
     takes_marked : may_take x.kind (new x).standing ≡ true
-    takes_marked = by_test (eqb x.id id) (λ t. rw t (s.may_take_lem (eqb-true _ _ t))) (λ f. rw f a.may_take_lem)
+    takes_marked = by_test (eqb x.id id) (λ t. rw t (s.may_take (eqb-true _ _ t))) (λ f. rw f a.may_take)
 
     plain_above_marked : is_plain (new x) ≡ false → (z : Space) → z ∈ above pre x → is_plain (new z) ≡ true
     unfolding above
@@ -104,14 +104,14 @@ module _ (id standing : ℕ) where
         (λ t.
         let q : x.id ≡ id = eqb-true _ _ t in
         plain_other z (λ h. unfound_absent x.id a.id_free (upward_stands 8 pre x z m) (h ∙ sym q))
-        ∙ plain_of_all (s.plain_above_lem (sym (plain_marked x q) ∙ p) q) m)
+        ∙ plain_of_all (s.plain_above (sym (plain_marked x q) ∙ p) q) m)
         (λ f.
         let o : is_plain x ≡ false = sym (plain_other x (eqb-false _ _ f)) ∙ p in
         by_test (eqb z.id id)
         (λ t.
         let h : z.id ≡ id = eqb-true _ _ t in
         plain_marked z h ∙ by_test (eqb standing 0) (λ e. e) (λ e. not_both (s.plain_below e z m h) o))
-        (λ g. plain_other z (eqb-false _ _ g) ∙ plain_of_all (a.plain_above_lem o) m))
+        (λ g. plain_other z (eqb-false _ _ g) ∙ plain_of_all (a.plain_above o) m))
 
     accepted_marked : Accepted L (map new pre) (new x)
     unfolding above
@@ -123,11 +123,11 @@ module _ (id standing : ℕ) where
           enclosed = λ r.
               let h = a.enclosed r in
               record { home = new h.home; home_stands = find_each new keeps x.within pre ∙ ap (Option.map new) h.home_stands; no_hatchway = h.no_hatchway };
-          may_take_lem = takes_marked;
+          may_take = takes_marked;
           level_at_most = omega (arith, a.level_at_most, ap length (upward_each new keeps 8 pre x), length-map (above pre x) new);
-          plain_above_lem = λ p. ap all_plain (upward_each new keeps 8 pre x) ∙ all_plain_map new (above pre x) (plain_above_marked p);
+          plain_above = λ p. ap all_plain (upward_each new keeps 8 pre x) ∙ all_plain_map new (above pre x) (plain_above_marked p);
           rooms_fit = λ r. omega (arith, a.rooms_fit r, sum_each (amount_of (Inside x.within)) new (λ y. refl) pre);
-          lengths_fit_lem = λ u. omega (arith, a.lengths_fit_lem u, sum_each (amount_of Lengths) new (λ y. refl) pre);
+          lengths_fit = λ u. omega (arith, a.lengths_fit u, sum_each (amount_of Lengths) new (λ y. refl) pre);
           place_left = omega (arith, a.place_left, length-map pre new);
         }
 
@@ -151,8 +151,8 @@ mark_by_id_keeps_valid {L} {xs} id standing v e =
     valid_marked id standing L xs
     (λ y k.
     record {
-      may_take_lem = λ q. rw (here y k q) at m.may_take_lem;
-      plain_above_lem = λ p q. rw (here y k q) at (m.plain_above_lem p);
+      may_take = λ q. rw (here y k q) at m.may_take;
+      plain_above = λ p q. rw (here y k q) at (m.plain_above p);
       plain_below = λ p z i q. plain_of_all (m.plain_below p) ((below_exactly id xs y).1 (k, (z, i, q)));
     })
     refl (sound_empty L) v

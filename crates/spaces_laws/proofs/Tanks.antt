@@ -43,12 +43,12 @@ tests_accept_exactly L xs x f = (none_applies (tank_tests L xs x f) (omega arith
 in_under_deck : (xs : List Space) (x : Space) → is_room x ≡ true → unhoused xs x ≡ false → in_no_under_deck (enclosing xs x) ≡ false → InUnderDeck xs x
 in_under_deck xs x r housed in_one =
     let s = some_of (find x.within xs) (not-false _ (and_fails _ _ housed r)) in
-    record { under_deck = s.0; stands = s.1; is_under_deck_lem = not-false _ (rw (enclosing_of_room xs x r, s.1) at in_one) }
+    record { under_deck = s.0; stands = s.1; is_under_deck = not-false _ (rw (enclosing_of_room xs x r, s.1) at in_one) }
 
 -- it is the one that the tank is measured in
 pub named_under_deck : {xs : List Space} {x : Space} (h : InUnderDeck xs x) → under_deck_with x.within xs ≡ h.under_deck
 unfolding under_deck_with
-named_under_deck h = ap under_deck_in h.stands ∙ rw h.is_under_deck_lem
+named_under_deck h = ap under_deck_in h.stands ∙ rw h.is_under_deck
 
 module _ (xs : List Space) (x : Space) (r : is_room x ≡ true) (h : InUnderDeck xs x) where
   abbrev u : Space
@@ -63,17 +63,17 @@ module _ (xs : List Space) (x : Space) (r : is_room x ≡ true) (h : InUnderDeck
 
   -- the tests that look at it
   past_end_is : (f : Hundredths) → past_end (enclosing xs x) x f ≡ passes_end u.length x.length f
-  past_end_is f = rw (it_is, h.is_under_deck_lem)
+  past_end_is f = rw (it_is, h.is_under_deck)
 
   measurable_is : (f : Hundredths) → measurable_in (enclosing xs x) x f ≡ measurable u.length u.m x.length f
   measurable_is f = rw it_is
 
   without_m_is : without_m (enclosing xs x) ≡ not (has_m u.m)
-  without_m_is = rw (it_is, h.is_under_deck_lem)
+  without_m_is = rw (it_is, h.is_under_deck)
 
   -- it is no room, so it is all that is above the tank
   kind_is : u.kind ≡ 1
-  kind_is = eqb-true _ _ h.is_under_deck_lem
+  kind_is = eqb-true _ _ h.is_under_deck
 
   above_tank : above xs x ≡ u ∷ []
   unfolding above
@@ -87,7 +87,7 @@ module _ (xs : List Space) (x : Space) (r : is_room x ≡ true) (h : InUnderDeck
   -- and "U and H take only 0"
   not_off_twice : {L : Hundredths} → Valid L xs → off_twice xs x ≡ false
   not_off_twice v =
-      let takes = ((valid_is_sound v).member u (found_stands x.within xs {z = u} h.stands).0).may_take_lem in
+      let takes = ((valid_is_sound v).member u (found_stands x.within xs {z = u} h.stands).0).may_take in
       let plain : is_plain u ≡ true = under_deck_plain u.standing (ap (λ (kind : ℕ). may_take kind u.standing) (sym kind_is) ∙ takes) in
       and_fails_of (not (is_plain x)) _ (λ _. rw (above_tank, plain))
 
@@ -117,7 +117,7 @@ facts_of_tank L xs x f r e =
       as_room = facts_of_entry L xs x (accepted (together id_free (together housed (together takes.0 from-7))));
       inside = h;
       within_ends = within;
-      has_m_lem = m;
+      has_m = m;
     }
 
 pub tank_of_facts : (L : Hundredths) (xs : List Space) (x : Space) (f : Hundredths) → is_room x ≡ true → AcceptedTank L xs x f → tank_number L xs x f ≡ 0
@@ -132,19 +132,19 @@ tank_of_facts L xs x f r a =
     let (room_fits, from-10) = apart from-9 in
     let (place_left, _) = apart from-10 in
     let o = enclosing xs x in
-    let in_one : in_no_under_deck o ≡ false = rw (encloses xs x r h) (ap not h.is_under_deck_lem) in
+    let in_one : in_no_under_deck o ≡ false = rw (encloses xs x r h) (ap not h.is_under_deck) in
     let placed : (misplaced xs x || in_no_under_deck o) ≡ false = or_fails_of _ _ takes in_one in
     let inside : past_end o x f ≡ false = past_end_is xs x r h f ∙ a.within_ends in
     let tons : (measurable_in o x f && overfull L xs x) ≡ false = and_fails_of (measurable_in o x f) _ (λ _. room_fits) in
     let room-left : (past_end o x f || (measurable_in o x f && overfull L xs x)) ≡ false = or_fails_of _ _ inside tons in
-    let with-m : without_m o ≡ false = without_m_is xs x r h ∙ ap not a.has_m_lem in
+    let with-m : without_m o ≡ false = without_m_is xs x r h ∙ ap not a.has_m in
     let from-9 = together room-left (together place_left (together with-m no_more)) in
     accepted (together id_free (together housed (together placed (together shallow (together once from-9)))))
 
 -- so 3 was judged of it, in the U that it names
 pub measurable_there : {L : Hundredths} {xs : List Space} {x : Space} {f : Hundredths} → AcceptedTank L xs x f
     → let u = under_deck_with x.within xs in measurable u.length u.m x.length f ≡ true
-measurable_there a = rw (named_under_deck a.inside) (and_holds_of _ _ a.has_m_lem (ap not a.within_ends))
+measurable_there a = rw (named_under_deck a.inside) (and_holds_of _ _ a.has_m (ap not a.within_ends))
 
 -- and an accepted tank is an accepted room
 pub tank_is_room : (L : Hundredths) (xs : List Space) (x : Space) (f : Hundredths) → is_room x ≡ true → tank_number L xs x f ≡ 0 → entry_number L xs x ≡ 0
@@ -185,4 +185,4 @@ none_without_m L xs x f room z =
     (λ y e.
     let same : some (recorded y) ≡ some a.inside.under_deck = sym (find_recorded x.within xs ∙ ap (map recorded) e) ∙ a.inside.stands in
     let no_m : a.inside.under_deck.m ≡ 0 = ap (λ (o : Option Space). (space_with o).m) (sym same) in
-    not_both a.has_m_lem (rw no_m))
+    not_both a.has_m (rw no_m))

@@ -29,7 +29,7 @@ use Rattle.spaces_laws.proofs.Standings.{may_take_is, standing_at_most, Kinded, 
 pub plain_anywhere_above : {L : Hundredths} {xs : List Space} → Valid L xs → {y z : Space} → y ∈ xs → is_plain y ≡ false → Above xs y z → is_plain z ≡ true
 plain_anywhere_above {L} {xs} v {y} {z} m p a =
     let o = (valid_is_sound v).member y m in
-    plain_of_all (o.plain_above_lem p) ((above_exactly xs y z o.level_at_most).1 a)
+    plain_of_all (o.plain_above p) ((above_exactly xs y z o.level_at_most).1 a)
 
 -- "of two standing spaces that aren't plain neither is anywhere above the other"
 pub neither_above_the_other : {L : Hundredths} {xs : List Space} → Valid L xs → {y z : Space} → y ∈ xs → z ∈ xs → is_plain y ≡ false → is_plain z ≡ false
@@ -49,7 +49,7 @@ all_plain_below {L} {xs} v {y} m p = all_plain_of (below y.id xs) plain
         let s = valid_is_sound v in
         let (t-stands, (z, over, same)) = (below_exactly y.id xs t).0 k in
         let e : y ≡ z = same_by_id y.id (s.member z (upward_stands 8 xs t z over)) (s.member y m).found same in
-        by_test (is_plain t) (λ q. q) (λ q. not_both (ap is_plain e ∙ plain_of_all ((s.member t t-stands).plain_above_lem q) over) p)
+        by_test (is_plain t) (λ q. q) (λ q. not_both (ap is_plain e ∙ plain_of_all ((s.member t t-stands).plain_above q) over) p)
 
 -- ---- E + D + M ≤ T, by counting twice. At each space, what is taken off there and what it has clear are no more than its tonnage as hull or
 -- as a room under clear spaces; and such rooms are shares of clear spaces, which hold no more than their own.
@@ -101,7 +101,7 @@ module _ (xs : List Space) (y : Space) where
 
 module _ (L : Hundredths) (xs : List Space) (s : Sound L xs) where
   taken_at : (y : Space) → y ∈ xs → taken_tons y + clear_tons xs y ≤ amount_of Hull y + under_clear xs y
-  taken_at y m = let o = s.member y m in taken_of_kind xs y o.plain_above_lem (kinded (may_take_is y.kind y.standing o.may_take_lem))
+  taken_at y m = let o = s.member y m in taken_of_kind xs y o.plain_above (kinded (may_take_is y.kind y.standing o.may_take))
 
   -- a room's enclosing space is clear where all above the room are plain
   home_clear : (y : Space) (m : y ∈ xs) (r : is_room y ≡ true) → all_plain (above xs y) ≡ true → clear xs ((s.member y m).enclosed r).home ≡ true
@@ -165,7 +165,7 @@ taken_off_is {L} {xs} v =
     exempt y = amount_of Exempt y + amount_of Ballast y
 
     once : (y : Space) → y ∈ xs → exempt y + amount_of Deducted y + amount_of Machinery y ≡ taken_tons y
-    once y m = taken_once y.standing y.tonnage (standing_at_most y.kind y.standing ((valid_is_sound v).member y m).may_take_lem)
+    once y m = taken_once y.standing y.tonnage (standing_at_most y.kind y.standing ((valid_is_sound v).member y m).may_take)
 
 -- "that no volume is taken off twice now asks that E + D + M is not more than T" (T-06 of document 02)
 pub taken_off_at_most_whole : {L : Hundredths} {xs : List Space} → Valid L xs → taken_off xs ≤ sum_of Hull xs

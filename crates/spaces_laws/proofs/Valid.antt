@@ -71,10 +71,10 @@ module _ (L : Hundredths) (xs : List Space) (x : Space) (s : Sound L xs) (a : Ac
         found = find_before _ xs _ o.found;
         id_at_least = o.id_at_least;
         id_at_most = o.id_at_most;
-        may_take_lem = o.may_take_lem;
+        may_take = o.may_take;
         enclosed = λ r. enclosed_append xs _ y (o.enclosed r);
         level_at_most = rw (above_kept s _ y o.enclosed) o.level_at_most;
-        plain_above_lem = λ p. rw (above_kept s _ y o.enclosed) (o.plain_above_lem p);
+        plain_above = λ p. rw (above_kept s _ y o.enclosed) (o.plain_above p);
         rooms_fit = omega (arith, rooms_kept y m, sum_append (amount_of (Inside y.id)) xs (x ∷ []));
       }
 
@@ -84,10 +84,10 @@ module _ (L : Hundredths) (xs : List Space) (x : Space) (s : Sound L xs) (a : Ac
         found = find_behind _ xs _ a.id_free ∙ find_here _ x [] refl;
         id_at_least = a.id_at_least;
         id_at_most = a.id_at_most;
-        may_take_lem = a.may_take_lem;
+        may_take = a.may_take;
         enclosed = λ r. enclosed_append xs _ x (a.enclosed r);
         level_at_most = rw (above_kept s _ x a.enclosed) a.level_at_most;
-        plain_above_lem = λ p. rw (above_kept s _ x a.enclosed) (a.plain_above_lem p);
+        plain_above = λ p. rw (above_kept s _ x a.enclosed) (a.plain_above p);
         rooms_fit =
             omega (
               arith,
@@ -101,20 +101,20 @@ module _ (L : Hundredths) (xs : List Space) (x : Space) (s : Sound L xs) (a : Ac
   lengths_kept =
       let e = sum_append (amount_of Lengths) xs (x ∷ []) in
       by_test (is_under_deck x)
-      (λ u. let n : sum_of Lengths (xs ++ (x ∷ [])) ≡ sum_of Lengths xs + (x.length.0 + 0) = rw u at e in omega (arith, a.lengths_fit_lem u))
-      (λ u. let n : sum_of Lengths (xs ++ (x ∷ [])) ≡ sum_of Lengths xs + (0 + 0) = rw u at e in omega (arith, s.lengths_fit_lem))
+      (λ u. let n : sum_of Lengths (xs ++ (x ∷ [])) ≡ sum_of Lengths xs + (x.length.0 + 0) = rw u at e in omega (arith, a.lengths_fit u))
+      (λ u. let n : sum_of Lengths (xs ++ (x ∷ [])) ≡ sum_of Lengths xs + (0 + 0) = rw u at e in omega (arith, s.lengths_fit))
 
   pub sound_entered : Sound L (xs ++ (x ∷ []))
   sound_entered =
       record {
         member = all_snoc (Member (xs ++ (x ∷ []))) xs x old_member new_member;
-        lengths_fit_lem = lengths_kept;
+        lengths_fit = lengths_kept;
         at_most_200 = omega (arith, a.place_left, length-append xs (x ∷ []));
       }
 
 pub sound_empty : (L : Hundredths) → Sound L []
 sound_empty L =
-    record { member = λ y m. absurd (Memᴰ.not-nil m); lengths_fit_lem = omega arith; at_most_200 = omega arith }
+    record { member = λ y m. absurd (Memᴰ.not-nil m); lengths_fit = omega arith; at_most_200 = omega arith }
 
 sound_from : {L : Hundredths} {pre xs : List Space} → Sound L pre → ValidFrom L pre xs → Sound L (pre ++ xs)
 sound_from {L} {pre} s done = rw append-nil s

@@ -116,11 +116,11 @@ accepted_without L id xs y empty out other a =
       enclosed = λ r.
           let h = a.enclosed r in
           record { home = h.home; home_stands = find_without id y.within xs (out r) ∙ h.home_stands; no_hatchway = h.no_hatchway };
-      may_take_lem = a.may_take_lem;
+      may_take = a.may_take;
       level_at_most = rw same a.level_at_most;
-      plain_above_lem = λ p. rw same (a.plain_above_lem p);
+      plain_above = λ p. rw same (a.plain_above p);
       rooms_fit = λ r. omega (arith, a.rooms_fit r, sum_without id (amount_of (Inside y.within)) xs);
-      lengths_fit_lem = λ u. omega (arith, a.lengths_fit_lem u, sum_without id (amount_of Lengths) xs);
+      lengths_fit = λ u. omega (arith, a.lengths_fit u, sum_without id (amount_of Lengths) xs);
       place_left = omega (arith, a.place_left, length_without id xs);
     }
 

@@ -22,11 +22,11 @@ pub record Accepted (L : Hundredths) (xs : List Space) (x : Space) : Type 0 wher
   pub id_at_most : x.id ≤ 9999
   pub id_free : find x.id xs ≡ none
   pub enclosed : is_room x ≡ true → Enclosed xs x
-  pub may_take_lem : may_take x.kind x.standing ≡ true
+  pub may_take : may_take x.kind x.standing ≡ true
   pub level_at_most : level xs x ≤ 8
-  pub plain_above_lem : is_plain x ≡ false → all_plain (above xs x) ≡ true
+  pub plain_above : is_plain x ≡ false → all_plain (above xs x) ≡ true
   pub rooms_fit : (r : is_room x ≡ true) → sum_of (Inside x.within) xs + x.tonnage ≤ (enclosed r).home.tonnage
-  pub lengths_fit_lem : is_under_deck x ≡ true → sum_of Lengths xs + x.length.0 ≤ L.0
+  pub lengths_fit : is_under_deck x ≡ true → sum_of Lengths xs + x.length.0 ≤ L.0
   pub place_left : length xs < 200
 
 -- a space is no room directly inside the one with an id
@@ -43,6 +43,6 @@ pub record Withdrawable (xs : List Space) (id : ℕ) : Type 0 where
 pub record Markable (xs : List Space) (id standing : ℕ) : Type 0 where
   pub it : Space
   pub it_stands : find id xs ≡ some it
-  pub may_take_lem : may_take it.kind standing ≡ true
-  pub plain_above_lem : eqb standing 0 ≡ false → all_plain (above xs it) ≡ true
+  pub may_take : may_take it.kind standing ≡ true
+  pub plain_above : eqb standing 0 ≡ false → all_plain (above xs it) ≡ true
   pub plain_below : eqb standing 0 ≡ false → all_plain (below id xs) ≡ true

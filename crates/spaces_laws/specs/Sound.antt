@@ -16,15 +16,15 @@ pub record Member (xs : List Space) (y : Space) : Type 0 where
   pub found : find y.id xs ≡ some y
   pub id_at_least : 1 ≤ y.id
   pub id_at_most : y.id ≤ 9999
-  pub may_take_lem : may_take y.kind y.standing ≡ true
+  pub may_take : may_take y.kind y.standing ≡ true
   pub enclosed : is_room y ≡ true → Enclosed xs y
   pub level_at_most : level xs y ≤ 8
-  pub plain_above_lem : is_plain y ≡ false → all_plain (above xs y) ≡ true
+  pub plain_above : is_plain y ≡ false → all_plain (above xs y) ≡ true
   -- "Rooms directly inside a space have recorded tonnages that add up to no more than its own"
   pub rooms_fit : sum_of (Inside y.id) xs ≤ y.tonnage
 
 pub record Sound (L : Hundredths) (xs : List Space) : Type 0 where
   pub member : (y : Space) → y ∈ xs → Member xs y
   -- "Lengths of all U add up to no more than the tonnage length"
-  pub lengths_fit_lem : sum_of Lengths xs ≤ L.0
+  pub lengths_fit : sum_of Lengths xs ≤ L.0
   pub at_most_200 : length xs ≤ 200

@@ -13,7 +13,7 @@ use Rattle.spaces_laws.specs.Accepted.{Accepted}
 pub record InUnderDeck (xs : List Space) (x : Space) : Type 0 where
   pub under_deck : Space
   pub stands : find x.within xs ≡ some under_deck
-  pub is_under_deck_lem : is_under_deck under_deck ≡ true
+  pub is_under_deck : is_under_deck under_deck ≡ true
 
 -- what the numbers 4 to 10 and 29 leave of a tank
 pub record AcceptedTank (L : Hundredths) (xs : List Space) (x : Space) (f : Hundredths) : Type 0 where
@@ -22,4 +22,4 @@ pub record AcceptedTank (L : Hundredths) (xs : List Space) (x : Space) (f : Hund
   -- "9 also if the tank passes an end of its U"
   pub within_ends : passes_end inside.under_deck.length x.length f ≡ false
   -- "29, after all the others, if that U has no m"
-  pub has_m_lem : has_m inside.under_deck.m ≡ true
+  pub has_m : has_m inside.under_deck.m ≡ true

@@ -139,7 +139,7 @@ fn print_space(space: Space) {
     print_number(space.deck as u64, b"");
 }
 
-// Where a tank is measured: its parts and, of each section, the under_deck station inside whose section it is.
+// Where a tank is measured: its parts and, of each section, the under-deck station inside whose section it is.
 pub fn zones(
     tonnage_length: Hundredths,
     under_deck: Hundredths,

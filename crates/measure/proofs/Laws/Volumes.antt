@@ -65,7 +65,7 @@ pub station_handed : {m : ℕ} {ds bs : List ℕ} (i at : ℕ) → SectionsHande
     → StationHanded m (hundredths (get_or ds i 0)) (take (m + 1) (drop at bs))
 station_handed {m = m} {bs = bs} i at g h =
     record {
-      parts = g.depth_parts_lem;
+      parts = g.depth_parts;
       deep = at_most_get i g.deep;
       count = length-take-le (m + 1) (drop at bs) (omega (arith, length-drop at bs));
       broad = at_most_take (m + 1) (at_most_drop at g.broad);
@@ -81,7 +81,7 @@ areas_le {m} {ds} {bs} g = each ds bs g.count g.deep g.broad
         let t : length (take (m + 1) bs) ≡ m + 1 = length-take-le (m + 1) bs (omega arith) in
         let l : length (drop (m + 1) bs) ≡ length ds * (m + 1) = omega (arith, length-drop (m + 1) bs) in
         more
-        (station_le (record { parts = g.depth_parts_lem; deep = h; count = t; broad = at_most_take (m + 1) hb }))
+        (station_le (record { parts = g.depth_parts; deep = h; count = t; broad = at_most_take (m + 1) hb }))
         (each ds (drop (m + 1) bs) l r (at_most_drop (m + 1) hb))
 
 -- a U's areas are those of its stations

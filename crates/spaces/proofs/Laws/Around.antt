@@ -130,7 +130,7 @@ module _ (records : List Space) (n : ℕ) (homes owns standings : List ℕ) (cha
   unfolding above
   met =
       climbed_walk xs homes standings charted.home_of
-      (λ p l. ap (λ (row : List ℕ). get_or row p 0) charted.standing_of_lem ∙ standing_there records n p l)
+      (λ p l. ap (λ (row : List ℕ). get_or row p 0) charted.standing_of ∙ standing_there records n p l)
       i (omega arith) 8 i h
 
   -- a record is enclosed among those before it where its home is before it, and is a room then

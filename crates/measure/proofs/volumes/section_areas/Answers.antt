@@ -29,7 +29,7 @@ pub loop-i-init : goal.loop-i-init
 loop-i-init c = (omega arith, sym (zero-mul _), refl, refl)
 
 pub overflow_add-next : goal.overflow_add-next
-overflow_add-next c = omega (arith, most c.before.before.before.before.requires.depth_parts_lem)
+overflow_add-next c = omega (arith, most c.before.before.before.before.requires.depth_parts)
 
 pub overflow_add-next-in-loop-i : goal.overflow_add-next-in-loop-i
 overflow_add-next-in-loop-i c = omega (arith, room c)
