@@ -8,61 +8,79 @@
 // Words, numbers and lists are those of `survey`, and so are the remarks on a line that is none of these.
 #![tactic(auto)]
 
-use libc::{STDIN_FILENO, STDOUT_FILENO};
+ghost use Rattle.std.specs.Prelude.{◌≤◌, length, IfOk};
+
 use measure::units::Hundredths;
 use script::calls::Line;
 use script::remarks::Remark;
 use script::{calls, remarks, text, words};
+use std::io;
+use std::io::Read;
 
 // The calls, by the places of their forms (`script::calls::figures_line`); the last is `ballast`.
 const SPACE: usize = 0;
 
 const HATCHWAYS: usize = 1;
 
-fn main() {
+fn main(rt: HostRuntime) -> io::Result<()> {
     let mut script = text::script_buffer();
-    let n = io::read_full(STDIN_FILENO, &mut script);
+    let n = read_full(&mut rt.reader(), &mut script)?;
     if text::MOST_BYTES < n {
-        answer_remark(Remark::ScriptTooLong);
-        return;
+        return answer_remark(&rt, Remark::ScriptTooLong);
     }
-    answer_lines(&script[..n]);
+    answer_lines(&rt, &script[..n])
 }
 
-fn answer_lines(script: &[u8]) {
+// Reads until the buffer is full or the input ends, and answers how many bytes it put at the buffer's front.
+fn read_full(input: &mut impl Read, buf: &mut [u8]) -> io::Result<usize>
+    ensures { IfOk result (λ n. n ≤ length buf.new) }
+{
+    let mut n = 0;
+    while n < buf.len() {
+        let more = input.read(&mut buf[n..])?;
+        if more == 0 {
+            break;
+        }
+        n += more;
+    }
+    Ok(n)
+}
+
+fn answer_lines(rt: &impl Print, script: &[u8]) -> io::Result<()> {
     let mut at = 0;
     while at < script.len() {
         let line = words::part_at(script, at, b'\n');
-        answer(line);
+        answer(rt, line)?;
         at += line.len() + 1;
     }
+    Ok(())
 }
 
-fn answer(line: &[u8]) {
+fn answer(rt: &impl Print, line: &[u8]) -> io::Result<()> {
     let is = calls::figures_line(line);
     match is {
-        Line::Passed => (),
-        Line::Call(call) => answer_call(line, call),
-        Line::Remarked(remark) => answer_remark(remark),
+        Line::Passed => Ok(()),
+        Line::Call(call) => answer_call(rt, line, call),
+        Line::Remarked(remark) => answer_remark(rt, remark),
     }
 }
 
-fn answer_call(line: &[u8], call: usize) {
+fn answer_call(rt: &impl Print, line: &[u8], call: usize) -> io::Result<()> {
     match call {
-        SPACE => answer_space(line),
-        HATCHWAYS => answer_hatchways(line),
-        _ => answer_ballast(line),
+        SPACE => answer_space(rt, line),
+        HATCHWAYS => answer_hatchways(rt, line),
+        _ => answer_ballast(rt, line),
     }
 }
 
-fn answer_remark(remark: Remark) {
+fn answer_remark(rt: &impl Print, remark: Remark) -> io::Result<()> {
     let mut text = [0u8; 32];
     let n = remarks::remark_text(remark, &mut text);
-    io::write_all(STDOUT_FILENO, &text[..n]);
-    io::write_all(STDOUT_FILENO, b"\n");
+    rt.write_all(&text[..n])?;
+    rt.print("\n")
 }
 
-fn answer_space(line: &[u8]) {
+fn answer_space(rt: &impl Print, line: &[u8]) -> io::Result<()> {
     let code = words::code_in(words::word(line, 1));
     let tonnage_length = words::measure_in(words::word(line, 2));
     let length = words::measure_in(words::word(line, 3));
@@ -70,36 +88,47 @@ fn answer_space(line: &[u8]) {
     let h = words::measures(words::word(line, 4), &mut heights);
     let mut breadths = [0u32; 1024];
     let b = words::measures(words::word(line, 5), &mut breadths);
-    answer_offsets(code, tonnage_length, length, &heights[..h], &breadths[..b]);
+    answer_offsets(
+        rt,
+        code,
+        tonnage_length,
+        length,
+        &heights[..h],
+        &breadths[..b],
+    )
 }
 
-fn answer_offsets(code: u8, tonnage_length: u32, length: u32, heights: &[u32], breadths: &[u32]) {
+fn answer_offsets(
+    rt: &impl Print,
+    code: u8,
+    tonnage_length: u32,
+    length: u32,
+    heights: &[u32],
+    breadths: &[u32],
+) -> io::Result<()> {
     let t = Hundredths(tonnage_length);
     let l = Hundredths(length);
     let offsets = measure::offsets::measure_offsets(code, t, l, heights, breadths);
     let measured = offsets.measured;
     let divided = measure::thirds::divided(measure::kinds::kind_of(code), t, l);
-    print_number(measured.number as u64, b" ");
-    print_number(measured.tonnage as u64, b" ");
-    print_number(divided.parts as u64, b" ");
-    print_number(divided.third.0, b"\n");
+    let third = divided.third;
+    println!(rt;
+        "{} {} {} {}",
+        measured.number, measured.tonnage, divided.parts, third.0
+    )
 }
 
-fn answer_hatchways(line: &[u8]) {
+fn answer_hatchways(rt: &impl Print, line: &[u8]) -> io::Result<()> {
     let g = words::value_in(words::word(line, 1));
     let sum = words::value_in(words::word(line, 2));
-    print_number(measure::allowances::hatchway_allowance(g), b" ");
-    print_number(measure::allowances::hatchway_excess(g, sum), b"\n");
+    let allowance = measure::allowances::hatchway_allowance(g);
+    let excess = measure::allowances::hatchway_excess(g, sum);
+    println!(rt; "{allowance} {excess}")
 }
 
-fn answer_ballast(line: &[u8]) {
+fn answer_ballast(rt: &impl Print, line: &[u8]) -> io::Result<()> {
     let ballast = words::value_in(words::word(line, 1));
     let gross = words::value_in(words::word(line, 2));
     let over = measure::allowances::ballast_over(ballast, gross);
-    print_number(over as u64, b"\n");
-}
-
-fn print_number(x: u64, behind: &[u8]) {
-    io::print_decimal(STDOUT_FILENO, x);
-    io::write_all(STDOUT_FILENO, behind);
+    println!(rt; "{}", over as u8)
 }

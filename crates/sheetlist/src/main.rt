@@ -2,18 +2,19 @@
 // is `listing::list`'s text, which is proved; that it reads and writes it is tested.
 #![tactic(auto)]
 
-ghost use Rattle.std.specs.Prelude.{◌≡◌, length};
+ghost use Rattle.std.specs.Prelude.{◌≡◌, ◌≤◌, length, IfOk};
 
-use libc::{STDIN_FILENO, STDOUT_FILENO};
 use listing::list;
+use std::io;
+use std::io::Read;
 
-fn main() {
+fn main(rt: HostRuntime) -> io::Result<()> {
     let mut file = file_buffer();
-    let n = io::read_full(STDIN_FILENO, &mut file);
+    let n = read_full(&mut rt.reader(), &mut file)?;
     let listing = list(&file[..n]);
     let text = listing.text;
     let size = listing.size;
-    io::write_all(STDOUT_FILENO, &text[..size]);
+    rt.write_all(&text[..size])
 }
 
 // Room for a day's file and a byte more, by which one too long is told. The `ensures` gives only the length, which lending
@@ -22,4 +23,19 @@ fn file_buffer() -> [u8; 65537]
     ensures { 65537 ≡ length result }
 {
     [0; 65537]
+}
+
+// Reads until the buffer is full or the input ends, and answers how many bytes it put at the buffer's front.
+fn read_full(input: &mut impl Read, buf: &mut [u8]) -> io::Result<usize>
+    ensures { IfOk result (λ n. n ≤ length buf.new) }
+{
+    let mut n = 0;
+    while n < buf.len() {
+        let more = input.read(&mut buf[n..])?;
+        if more == 0 {
+            break;
+        }
+        n += more;
+    }
+    Ok(n)
 }

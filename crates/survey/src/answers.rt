@@ -3,7 +3,6 @@
 ghost use Rattle.std.specs.Prelude.{◌+◌, ◌<◌, ◌≤◌, length};
 
 use dayfile::{Moved, Reading, Written};
-use libc::STDOUT_FILENO;
 use measure::kinds::UNDER_DECK;
 use measure::roundings::Roundings;
 use measure::tanks;
@@ -12,190 +11,200 @@ use script::remarks::Remark;
 use script::{hex, remarks};
 use sheet::{Changed, Counted, Entering, Reported, Sheet, TankEntering};
 use spaces::space::Space;
+use std::fmt::Display;
+use std::io;
 
 const BYTES_AT_A_TIME: usize = 2048;
 
-pub fn remark(remark: Remark) {
+pub fn remark(rt: &impl Print, remark: Remark) -> io::Result<()> {
     let mut text = [0u8; 32];
     let n = remarks::remark_text(remark, &mut text);
-    print(&text[..n]);
-    print(b"\n");
+    rt.write_all(&text[..n])?;
+    rt.print("\n")
 }
 
-pub fn changed(changed: Changed) -> Sheet {
-    print_number(changed.number as u64, b"\n");
-    changed.sheet
+pub fn changed(rt: &impl Print, changed: Changed) -> io::Result<Sheet> {
+    println!(rt; "{}", changed.number)?;
+    Ok(changed.sheet)
 }
 
 // The rounding of the length; of an accepted U those of the depths at its stations, `-` where there are none; and the enclosing
 // spaces visited.
-pub fn entering(entering: Entering, kind: u8, stations: usize) -> Sheet {
+pub fn entering(
+    rt: &impl Print,
+    entering: Entering,
+    kind: u8,
+    stations: usize,
+) -> io::Result<Sheet> {
     let roundings = entering.roundings;
-    print_number(entering.number as u64, b" ");
-    print_signed(roundings.length);
-    print(b" ");
+    print!(rt; "{} {} ", entering.number, roundings.length)?;
     if entering.number == 0 && kind == UNDER_DECK {
-        print_depths(roundings, stations);
+        print_depths(rt, roundings, stations)?;
     } else {
-        print(b"-");
+        rt.print("-")?;
     }
-    print(b" ");
-    print_number(entering.visited as u64, b"\n");
-    entering.sheet
+    println!(rt; " {}", entering.visited)?;
+    Ok(entering.sheet)
 }
 
 // The enclosing spaces visited.
-pub fn tank_entering(entering: TankEntering) -> Sheet {
-    print_number(entering.number as u64, b" ");
-    print_number(entering.visited as u64, b"\n");
-    entering.sheet
+pub fn tank_entering(rt: &impl Print, entering: TankEntering) -> io::Result<Sheet> {
+    println!(rt; "{} {}", entering.number, entering.visited)?;
+    Ok(entering.sheet)
 }
 
 // An accepted U has at most 17 stations.
-fn print_depths(roundings: Roundings, stations: usize) {
+fn print_depths(rt: &impl Print, roundings: Roundings, stations: usize) -> io::Result<()> {
     let depths = roundings.depths;
     let mut i = 0;
     while i < stations && i < 17 {
-        print_comma(i);
-        print_signed(depths[i]);
+        print_listed(rt, i, depths[i])?;
         i += 1;
     }
+    Ok(())
 }
 
-pub fn counted(counted: Counted) -> Sheet {
-    print(b"0 ");
-    print_number(counted.undoable as u64, b" ");
-    print_number(counted.redoable as u64, b"\n");
-    counted.sheet
+pub fn counted(rt: &impl Print, counted: Counted) -> io::Result<Sheet> {
+    println!(rt; "0 {} {}", counted.undoable, counted.redoable)?;
+    Ok(counted.sheet)
 }
 
-pub fn reported(reported: Reported) -> Sheet {
-    print_number(reported.number as u64, b" ");
-    print_number(reported.gross, b" ");
-    print_number(reported.net, b"\n");
-    reported.sheet
+pub fn reported(rt: &impl Print, reported: Reported) -> io::Result<Sheet> {
+    println!(rt; "{} {} {}", reported.number, reported.gross, reported.net)?;
+    Ok(reported.sheet)
 }
 
 // The bytes written, and the whole buffer after it.
-pub fn written(written: Written, buffer: &[u8]) -> Sheet {
-    print_number(written.number as u64, b" ");
-    print_number(written.bytes as u64, b" ");
-    print_bytes(buffer);
-    print(b"\n");
-    written.sheet
+pub fn written(rt: &impl Print, written: Written, buffer: &[u8]) -> io::Result<Sheet> {
+    print!(rt; "{} {} ", written.number, written.bytes)?;
+    print_bytes(rt, buffer)?;
+    rt.print("\n")?;
+    Ok(written.sheet)
 }
 
 // The bytes written, the position, and the whole buffer after it.
-pub fn moved(moved: Moved, buffer: &[u8]) {
-    print_number(moved.number as u64, b" ");
-    print_number(moved.bytes as u64, b" ");
-    print_number(moved.position as u64, b" ");
-    print_bytes(buffer);
-    print(b"\n");
+pub fn moved(rt: &impl Print, moved: Moved, buffer: &[u8]) -> io::Result<()> {
+    print!(rt; "{} {} {} ", moved.number, moved.bytes, moved.position)?;
+    print_bytes(rt, buffer)?;
+    rt.print("\n")
 }
 
 // The position, the justified mark, the start and the form.
-pub fn read(reading: Reading) -> Sheet {
-    print_number(reading.number as u64, b" ");
-    print_number(reading.position as u64, b" ");
-    print_number(reading.justified as u64, b" ");
-    print_number(reading.start as u64, b" ");
-    print_number(reading.form as u64, b"\n");
-    reading.sheet
+pub fn read(rt: &impl Print, reading: Reading) -> io::Result<Sheet> {
+    println!(rt;
+        "{} {} {} {} {}",
+        reading.number, reading.position, reading.justified, reading.start, reading.form
+    )?;
+    Ok(reading.sheet)
 }
 
 // Whether the sheet is open, its tonnage length, how many spaces stand, its vessel number, and each space.
-pub fn spaces(sheet: Sheet) -> Sheet {
-    print(b"0 ");
-    print_number(sheet.is_open() as u64, b" ");
-    print_number(sheet.tonnage_length().0 as u64, b" ");
-    print_number(sheet.standing_count() as u64, b" ");
-    print_number(sheet.vessel() as u64, b"");
-    print_spaces(sheet);
-    print(b"\n");
-    sheet
+pub fn spaces(rt: &impl Print, sheet: Sheet) -> io::Result<Sheet> {
+    print!(rt;
+        "0 {} {} {} {}",
+        sheet.is_open() as u8,
+        sheet.tonnage_length().0,
+        sheet.standing_count(),
+        sheet.vessel()
+    )?;
+    print_spaces(rt, sheet)?;
+    rt.print("\n")?;
+    Ok(sheet)
 }
 
 // Each standing space in order of entry.
-fn print_spaces(sheet: Sheet) {
+fn print_spaces(rt: &impl Print, sheet: Sheet) -> io::Result<()> {
     let count = sheet.standing_count();
     let spaces = sheet.places();
     let mut place = 0;
     while place < count {
-        print_space(spaces[place]);
+        print_space(rt, spaces[place])?;
         place += 1;
     }
+    Ok(())
 }
 
-fn print_space(space: Space) {
-    print(b" ");
-    print_number(space.id as u64, b":");
-    print_number(space.within as u64, b":");
-    print_number(space.kind as u64, b":");
-    print_number(space.standing as u64, b":");
-    print_number(space.tonnage as u64, b":");
-    print_number(space.length.0 as u64, b":");
-    print_number(space.m as u64, b":");
-    print_number(space.deck as u64, b"");
+fn print_space(rt: &impl Print, space: Space) -> io::Result<()> {
+    print!(rt;
+        " {}:{}:{}:{}:{}:{}:{}:{}",
+        space.id,
+        space.within,
+        space.kind,
+        space.standing,
+        space.tonnage,
+        space.length.0,
+        space.m,
+        space.deck
+    )
 }
 
 // Where a tank is measured: its parts and, of each section, the under-deck station inside whose section it is.
 pub fn zones(
+    rt: &impl Print,
     tonnage_length: Hundredths,
     under_deck: Hundredths,
     length: Hundredths,
     fore: Hundredths,
-) {
+) -> io::Result<()> {
     let laid_out = tanks::lay_out(tonnage_length, under_deck, length, fore);
-    print_number(laid_out.number as u64, b" ");
-    print_number(laid_out.parts as u64, b" ");
+    print!(rt; "{} {} ", laid_out.number, laid_out.parts)?;
     if laid_out.sections == 0 {
-        print(b"-");
+        rt.print("-")?;
     }
-    print_stations(tonnage_length, under_deck, length, fore, laid_out.sections);
-    print(b"\n");
+    print_stations(
+        rt,
+        tonnage_length,
+        under_deck,
+        length,
+        fore,
+        laid_out.sections,
+    )?;
+    rt.print("\n")
 }
 
 fn print_stations(
+    rt: &impl Print,
     tonnage_length: Hundredths,
     under_deck: Hundredths,
     length: Hundredths,
     fore: Hundredths,
     sections: usize,
-) {
+) -> io::Result<()> {
     let mut i = 0;
     while i < sections {
         let station = tanks::section_station(tonnage_length, under_deck, length, fore, i);
-        print_listed(i, station as u64);
+        print_listed(rt, i, station)?;
         i += 1;
     }
+    Ok(())
 }
 
 // A number of a list, by its place.
-fn print_listed(place: usize, x: u64) {
-    print_comma(place);
-    print_number(x, b"");
+fn print_listed(rt: &impl Print, place: usize, x: impl Display + Drop) -> io::Result<()> {
+    print_comma(rt, place)?;
+    rt.print(x)
 }
 
 // What stands before a number of a list, by its place.
-fn print_comma(place: usize) {
+fn print_comma(rt: &impl Print, place: usize) -> io::Result<()> {
     if 0 < place {
-        print(b",");
+        return rt.print(",");
     }
+    Ok(())
 }
 
 // Bytes as hex digits, some thousands at a time; `-` where there are none.
-fn print_bytes(bytes: &[u8]) {
+fn print_bytes(rt: &impl Print, bytes: &[u8]) -> io::Result<()> {
     if bytes.len() == 0 {
-        print(b"-");
-        return;
+        return rt.print("-");
     }
     let mut at = 0;
     while at < bytes.len() {
         let end = part_end(at, bytes.len());
-        print_hex(&bytes[at..end]);
+        print_hex(rt, &bytes[at..end])?;
         at = end;
     }
+    Ok(())
 }
 
 // Where the part of so many bytes that begins at a place ends.
@@ -210,30 +219,10 @@ fn part_end(at: usize, all: usize) -> usize
 }
 
 // So few bytes that the digits of all of them fit.
-fn print_hex(bytes: &[u8])
+fn print_hex(rt: &impl Print, bytes: &[u8]) -> io::Result<()>
     requires { length bytes.now ≤ 2048 }
 {
-    let mut text = io::buffer();
+    let mut text = [0u8; 4096];
     let n = hex::digits(bytes, &mut text);
-    print(&text[..n]);
-}
-
-// A number below zero has a `-` before it.
-fn print_signed(x: i8) {
-    let wide = x as i64;
-    if wide < 0 {
-        print(b"-");
-        print_number((0 - wide) as u64, b"");
-        return;
-    }
-    print_number(wide as u64, b"");
-}
-
-fn print_number(x: u64, behind: &[u8]) {
-    io::print_decimal(STDOUT_FILENO, x);
-    print(behind);
-}
-
-fn print(text: &[u8]) {
-    io::write_all(STDOUT_FILENO, text);
+    rt.write_all(&text[..n])
 }

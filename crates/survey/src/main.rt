@@ -5,12 +5,15 @@
 
 mod answers;
 
-use libc::STDIN_FILENO;
+ghost use Rattle.std.specs.Prelude.{◌≤◌, length, IfOk};
+
 use measure::units::Hundredths;
 use script::calls::Line;
 use script::remarks::Remark;
 use script::{calls, hex, text, words};
 use sheet::{Changed, Entry, Sheet, Tank};
+use std::io;
+use std::io::Read;
 
 // The calls, by the places of their forms (`script::calls::survey_line`); the last is `spaces`.
 const OPEN: usize = 0;
@@ -57,46 +60,63 @@ const MOVE: usize = 20;
 
 const ZONES: usize = 21;
 
-fn main() {
+fn main(rt: HostRuntime) -> io::Result<()> {
     let mut script = text::script_buffer();
-    let n = io::read_full(STDIN_FILENO, &mut script);
+    let n = read_full(&mut rt.reader(), &mut script)?;
     if text::MOST_BYTES < n {
-        answers::remark(Remark::ScriptTooLong);
-        return;
+        return answers::remark(&rt, Remark::ScriptTooLong);
     }
-    answer_lines(&script[..n]);
+    answer_lines(&rt, &script[..n])
+}
+
+// Reads until the buffer is full or the input ends, and answers how many bytes it put at the buffer's front.
+fn read_full(input: &mut impl Read, buf: &mut [u8]) -> io::Result<usize>
+    ensures { IfOk result (λ n. n ≤ length buf.new) }
+{
+    let mut n = 0;
+    while n < buf.len() {
+        let more = input.read(&mut buf[n..])?;
+        if more == 0 {
+            break;
+        }
+        n += more;
+    }
+    Ok(n)
 }
 
 // At the start the current sheet is one not open.
-fn answer_lines(script: &[u8]) {
+fn answer_lines(rt: &impl Print, script: &[u8]) -> io::Result<()> {
     let mut sheet = Sheet::closed();
     let mut at = 0;
     while at < script.len() {
         let line = words::part_at(script, at, b'\n');
-        sheet = answer_line(sheet, line);
+        sheet = answer_line(rt, sheet, line)?;
         at += line.len() + 1;
     }
+    Ok(())
 }
 
 // Answers a line, if it has an answer, and hands back the sheet after it.
-fn answer_line(sheet: Sheet, line: &[u8]) -> Sheet {
+fn answer_line(rt: &impl Print, sheet: Sheet, line: &[u8]) -> io::Result<Sheet> {
     let is = calls::survey_line(line);
     match is {
-        Line::Passed => sheet,
-        Line::Call(call) => make(sheet, line, call),
+        Line::Passed => Ok(sheet),
+        Line::Call(call) => make(rt, sheet, line, call),
         Line::Remarked(remark) => {
-            answers::remark(remark);
-            sheet
+            answers::remark(rt, remark)?;
+            Ok(sheet)
         }
     }
 }
 
 // Makes a call with the words of its line.
-fn make(sheet: Sheet, line: &[u8], call: usize) -> Sheet {
+fn make(rt: &impl Print, sheet: Sheet, line: &[u8], call: usize) -> io::Result<Sheet> {
     match call {
-        OPEN | OPEN_WITH_VESSEL | WITHDRAW..=REDO => answers::changed(change(sheet, line, call)),
-        ENTER..=ENTER_TANK_WITH_DECK => enter(sheet, line, call),
-        _ => ask(sheet, line, call),
+        OPEN | OPEN_WITH_VESSEL | WITHDRAW..=REDO => {
+            answers::changed(rt, change(sheet, line, call))
+        }
+        ENTER..=ENTER_TANK_WITH_DECK => enter(rt, sheet, line, call),
+        _ => ask(rt, sheet, line, call),
     }
 }
 
@@ -116,53 +136,78 @@ fn change(sheet: Sheet, line: &[u8], call: usize) -> Changed {
 }
 
 // Tells of the sheet, writes it, reads another or moves one.
-fn ask(sheet: Sheet, line: &[u8], call: usize) -> Sheet {
+fn ask(rt: &impl Print, sheet: Sheet, line: &[u8], call: usize) -> io::Result<Sheet> {
     match call {
-        COUNTS => answers::counted(sheet.counts()),
-        REPORT => answers::reported(sheet.report(code_at(line, 1))),
-        WRITE..=WRITE_FILLED_IN_FORM => store(sheet, line, call, b""),
-        READ | MOVE => take_file(sheet, line, call, 1),
-        READ_BEFORE => take_file(sheet, line, call, 2),
-        ZONES => zones(sheet, line),
-        _ => answers::spaces(sheet),
+        COUNTS => answers::counted(rt, sheet.counts()),
+        REPORT => answers::reported(rt, sheet.report(code_at(line, 1))),
+        WRITE..=WRITE_FILLED_IN_FORM => store(rt, sheet, line, call, b""),
+        READ | MOVE => take_file(rt, sheet, line, call, 1),
+        READ_BEFORE => take_file(rt, sheet, line, call, 2),
+        ZONES => zones(rt, sheet, line),
+        _ => answers::spaces(rt, sheet),
     }
 }
 
 // Takes the file at a place of the line.
-fn take_file(sheet: Sheet, line: &[u8], call: usize, place: usize) -> Sheet {
-    let mut file = io::large_buffer();
+fn take_file(
+    rt: &impl Print,
+    sheet: Sheet,
+    line: &[u8],
+    call: usize,
+    place: usize,
+) -> io::Result<Sheet> {
+    let mut file = [0u8; 65536];
     let n = hex::bytes(words::word(line, place), &mut file);
-    use_file(sheet, line, call, &file[..n])
+    use_file(rt, sheet, line, call, &file[..n])
 }
 
 // Reads its last sheet, or the one before the start that the line says, or moves the last.
-fn use_file(sheet: Sheet, line: &[u8], call: usize, file: &[u8]) -> Sheet {
+fn use_file(
+    rt: &impl Print,
+    sheet: Sheet,
+    line: &[u8],
+    call: usize,
+    file: &[u8],
+) -> io::Result<Sheet> {
     match call {
-        READ => answers::read(dayfile::read(file)),
-        READ_BEFORE => answers::read(dayfile::read_before(file, place_at(line, 1))),
-        _ => store(sheet, line, call, file),
+        READ => answers::read(rt, dayfile::read(file)),
+        READ_BEFORE => answers::read(rt, dayfile::read_before(file, place_at(line, 1))),
+        _ => store(rt, sheet, line, call, file),
     }
 }
 
 // Writes the sheet, which takes no file, or moves the file's, into a buffer of the size that the line says, whose bytes are
 // all its filling.
-fn store(sheet: Sheet, line: &[u8], call: usize, file: &[u8]) -> Sheet {
+fn store(
+    rt: &impl Print,
+    sheet: Sheet,
+    line: &[u8],
+    call: usize,
+    file: &[u8],
+) -> io::Result<Sheet> {
     let size = words::size_in(words::word(line, size_place(call)));
     let fill = filling(line, call);
     let mut buffer = [fill; 65536];
-    store_into(sheet, line, call, file, &mut buffer[..size])
+    store_into(rt, sheet, line, call, file, &mut buffer[..size])
 }
 
 // A move leaves the current sheet as it is.
-fn store_into(sheet: Sheet, line: &[u8], call: usize, file: &[u8], buffer: &mut [u8]) -> Sheet {
+fn store_into(
+    rt: &impl Print,
+    sheet: Sheet,
+    line: &[u8],
+    call: usize,
+    file: &[u8],
+    buffer: &mut [u8],
+) -> io::Result<Sheet> {
     let form = form(line, call);
     if call == MOVE {
         let moved = dayfile::move_last(file, form, buffer, place_at(line, 3));
-        answers::moved(moved, buffer);
-        return sheet;
+        answers::moved(rt, moved, buffer)?;
+        return Ok(sheet);
     }
     let written = dayfile::write(sheet, code_at(line, 1), form, buffer, place_at(line, 2));
-    answers::written(written, buffer)
+    answers::written(rt, written, buffer)
 }
 
 // Where a line says the size of a buffer.
@@ -193,24 +238,36 @@ fn form(line: &[u8], call: usize) -> u8 {
 }
 
 // Enters a space or a tank, with the two lists of the line.
-fn enter(sheet: Sheet, line: &[u8], call: usize) -> Sheet {
+fn enter(rt: &impl Print, sheet: Sheet, line: &[u8], call: usize) -> io::Result<Sheet> {
     let mut heights = [0u32; 1024];
     let h = words::measures(words::word(line, 6), &mut heights);
     let mut breadths = [0u32; 1024];
     let b = words::measures(words::word(line, 7), &mut breadths);
-    enter_from(sheet, line, call, &heights[..h], &breadths[..b])
+    enter_from(rt, sheet, line, call, &heights[..h], &breadths[..b])
 }
 
 // A tank passes no roundings on.
-fn enter_from(sheet: Sheet, line: &[u8], call: usize, heights: &[u32], breadths: &[u32]) -> Sheet {
+fn enter_from(
+    rt: &impl Print,
+    sheet: Sheet,
+    line: &[u8],
+    call: usize,
+    heights: &[u32],
+    breadths: &[u32],
+) -> io::Result<Sheet> {
     match call {
         ENTER_TANK | ENTER_TANK_WITH_DECK => {
-            answers::tank_entering(sheet.enter_tank(tank(line), heights, breadths))
+            answers::tank_entering(rt, sheet.enter_tank(tank(line), heights, breadths))
         }
         _ => {
             let entry = entry(line, call);
             let kind = entry.kind;
-            answers::entering(sheet.enter(entry, heights, breadths), kind, heights.len())
+            answers::entering(
+                rt,
+                sheet.enter(entry, heights, breadths),
+                kind,
+                heights.len(),
+            )
         }
     }
 }
@@ -249,14 +306,15 @@ fn tank(line: &[u8]) -> Tank {
 }
 
 // Where a tank is measured, which needs no sheet.
-fn zones(sheet: Sheet, line: &[u8]) -> Sheet {
+fn zones(rt: &impl Print, sheet: Sheet, line: &[u8]) -> io::Result<Sheet> {
     answers::zones(
+        rt,
         Hundredths(measure_at(line, 1)),
         Hundredths(measure_at(line, 2)),
         Hundredths(measure_at(line, 3)),
         Hundredths(measure_at(line, 4)),
-    );
-    sheet
+    )?;
+    Ok(sheet)
 }
 
 // The word at a place of a line, as an id, as a code, as a measure or vessel number, and as a place in a buffer or a file. One
