@@ -113,6 +113,7 @@ pub fn spaces(rt: &impl Print, sheet: Sheet) -> io::Result<Sheet> {
 }
 
 // Each standing space in order of entry.
+#[tactic(auto, using(sheet::proofs::Laws::Sheet::standing_count_le))]
 fn print_spaces(rt: &impl Print, sheet: Sheet) -> io::Result<()> {
     let count = sheet.standing_count();
     let spaces = sheet.places();
