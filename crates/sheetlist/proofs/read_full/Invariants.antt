@@ -1,9 +1,12 @@
--- `read_full` puts no more into the buffer than it has room for, and each read leaves less room.
-use Rattle.std.proofs.Common.{length, ◌-◌, ◌≤◌}
+-- What `read_full` put into the buffer is what it took from the input, and each read leaves less room.
+use Rattle.std.proofs.Common.{◌-◌, ◌≤◌, length, take}
+use Rattle.std.specs.Io.KnownBytes.{Consumes}
 use Rattle.sheetlist.proofs.read_full.Given as goal
 
 abbrev pub invariant-loop-n : goal.invariant-loop-n
-invariant-loop-n g l = l.n ≤ length l.buf
+invariant-loop-n g l =
+    (l.n ≤ length l.buf)
+    × Consumes (g.R.Read.remaining l.initial.input) (g.R.Read.remaining l.input) (take l.n l.buf)
 
 abbrev pub decreases-loop-n : goal.decreases-loop-n
 decreases-loop-n g l = length l.initial.buf - l.n
