@@ -89,8 +89,8 @@ module _ (id standing : ℕ) where
 
   -- what the mark asks of one space, of which `zs` are above
   record Suits (zs : List Space) (x : Space) : Type 0 where
-    may_take_lem : x.id ≡ id → may_take x.kind standing ≡ true
-    plain_above_lem : eqb standing 0 ≡ false → x.id ≡ id → all_plain zs ≡ true
+    may_take : x.id ≡ id → may_take x.kind standing ≡ true
+    plain_above : eqb standing 0 ≡ false → x.id ≡ id → all_plain zs ≡ true
     plain_below : eqb standing 0 ≡ false → (z : Space) → z ∈ zs → z.id ≡ id → is_plain x ≡ true
 
   module _ (L : Hundredths) (pre : List Space) (x : Space) (a : Accepted L pre x) (s : Suits (above pre x) x) where
