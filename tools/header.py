@@ -1,10 +1,12 @@
 #!/usr/bin/env python3
 """Fails where include/fummidrake.h, or the Rust module over it, declares something else than the source exports.
 
-From the functions that crates/fummidrake exports and the structs that they hand over, the C and the Rust declarations are worked
+From the functions that crates/fummidrake_c exports and the structs that they hand over, the C and the Rust declarations are worked
 out, with where each field lies and each struct's size as C lays it out, and compared with those of the header and the module and with
-their assertions. For each call that takes a sheet and hands one back the header must have its one form in place, word for word. It
-must have a sentence for each declaration, the stack that each call takes, the README's table of refusals and the version in VERSION.
+their assertions. Each exported function has the parameters, the answer and the contract of the call of its name in crates/fummidrake,
+word for word, and no call lacks one. For each call that takes a sheet and hands one back the header must have its one form in place,
+word for word. It must have a sentence for each declaration, the stack that each call takes, the README's table of refusals and the
+version in VERSION.
 
 Run at the root of the project: python3 tools/header.py
 """
@@ -13,7 +15,8 @@ import sys
 from pathlib import Path
 from typing import Iterator, NamedTuple
 
-SOURCE = Path('crates/fummidrake/src/lib.rt')
+SOURCE = Path('crates/fummidrake_c/src/lib.rt')
+CALLS = Path('crates/fummidrake/src/lib.rt')
 HEADER = Path('include/fummidrake.h')
 RUST_MODULE = Path('rust/fummidrake.rs')
 README = Path('README.md')
@@ -36,6 +39,7 @@ class Function(NamedTuple):
     name: str
     parameters: Fields
     result: str
+    contract: str
 
 
 # The source
@@ -46,9 +50,17 @@ def fields_of(text: str) -> Fields:
     return dict(re.findall(r'(\w+): ([^,]+)', plain))
 
 
-def functions() -> list[Function]:
-    found = re.findall(r'#\[no_mangle\]\npub extern "C" fn (\w+)\((.*?)\) -> (\w+)\n', SOURCE.read_text(), re.S)
-    return [Function(name, fields_of(parameters), result) for name, parameters, result in found]
+def functions(source: Path, head: str) -> list[Function]:
+    found = re.findall(rf'{head}fn (\w+)\((.*?)\) -> (\w+)\n(.*?)^\{{$', source.read_text(), re.S | re.M)
+    return [Function(name, fields_of(parameters), result, words(contract)) for name, parameters, result, contract in found]
+
+
+def exports() -> list[Function]:
+    return functions(SOURCE, r'#\[unsafe\(no_mangle\)\]\npub extern "C" ')
+
+
+def calls() -> list[Function]:
+    return functions(CALLS, '^pub (?:extern "C" )?')
 
 
 def structs(used: set[str]) -> dict[str, Fields]:
@@ -57,7 +69,7 @@ def structs(used: set[str]) -> dict[str, Fields]:
     numbers = {name: kind for text in sources for name, kind in re.findall(r'pub struct (\w+)\((?:pub )?(\w+)\);', text)}
     all_of_them = {}
     for text in sources:
-        for name, inside in re.findall(r'#\[repr\(C\)\]\npub struct (\w+) \{(.*?)\n\}', text, re.S):
+        for name, inside in re.findall(r'#\[repr\(C\)\]\n(?:#\[derive[^\n]*\n)*pub struct (\w+) \{(.*?)\n\}', text, re.S):
             all_of_them[name] = {field: numbers.get(kind, kind) for field, kind in fields_of(inside).items()}
     reached: dict[str, Fields] = {}
     waiting = sorted(used)
@@ -230,10 +242,12 @@ def differences(what: Path, expected: Iterator[str], found: Iterator[str]) -> It
 
 
 def faults() -> Iterator[str]:
-    exported = functions()
+    exported = exports()
     handed = structs({kind for one in exported for kind in (one.result, *one.parameters.values())})
-    if SOURCE.read_text().count('#[no_mangle]') != len(exported):
+    if SOURCE.read_text().count('no_mangle') != len(exported):
         yield f'{SOURCE}: an exported function that is not understood'
+    yield from (f'{SOURCE}: {one.name} is not as in {CALLS}' for one in exported if one not in calls())
+    yield from (f'{SOURCE}: lacks {one.name}' for one in calls() if one.name not in {other.name for other in exported})
     yield from differences(HEADER, declared_in_c(exported, handed), found_in_c())
     yield from differences(RUST_MODULE, declared_in_rust(exported, handed), found_in_rust())
     yield from (f'{HEADER}: no sentence: {block}' for block in blocks_of_header() if not block.startswith('/* '))
