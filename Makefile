@@ -1,13 +1,18 @@
 # `make run` surveys and lists the example barge, `make examples` does it in C and Rust; `make test` proves and tests everything;
 # `make fuzz N=100` compares fresh scripts; `make bench` times the calls beside the same calls in plain Rust; `make install PREFIX=`
 # brings header, archive and pkg-config file to a place.
-KIT := rattle-kit-5b logic 064da1ca440f63e7
+KIT := rattle-kit-13f logic dac8208d650f15bf
+PROGRAMS := survey sheetlist figures
+ARCHIVE := target/staticlib/libfummidrake.a
 
-.PHONY: test proofs reference-tests run examples fuzz bench install stored kit
+# A line that hands its output on fails where its first command does.
+SHELL := bash
+.SHELLFLAGS := -o pipefail -ec
+
+.PHONY: test proofs reference-tests run examples fuzz bench archive install stored kit $(PROGRAMS)
 
 test: kit
 	@tools/x86 ready
-	@rt fmt --check
 	@python3 tools/promises.py
 	@python3 tools/mapped.py
 	@python3 tools/header.py
@@ -22,9 +27,10 @@ test: kit
 	@tools/x86 run target/stack
 	@! tools/x86 rust || { $(MAKE) --no-print-directory target/bench && target/bench --check; }
 
-# Every proof and edit from nothing. `rt` takes both cores, so nothing else runs beside it: what it says a crate takes is the crate's own.
-proofs:
-	@rt ci
+# Every proof, edit, program and layout, with nothing before it and nothing beside it, since `rt` takes every processor. What it says is
+# kept: it alone tells what each edit came to.
+proofs: kit
+	@rt ci | tee target/ci.log
 
 # The second program's own tests, the picture's, and that what is stored is what the second program prints today.
 reference-tests:
@@ -33,21 +39,23 @@ reference-tests:
 	@python3 tools/stored.py --check
 
 # Proves the library and the programs over it, then plays the example barge's morning and lists the sheet that it wrote.
-run: kit
-	@rt check survey sheetlist > target/run.log 2>&1 || { cat target/run.log; exit 1; }
-	@tools/x86 run target/bin/survey < examples/barge.txt
-	@tools/x86 run target/bin/sheetlist < examples/barge.day
+run: survey sheetlist
+	@tools/x86 run crates/survey/out/survey < examples/barge.txt
+	@tools/x86 run crates/sheetlist/out/sheetlist < examples/barge.day
+
+# Proves a program and all that it stands on, over what was proved before, and builds it, crates/NAME/out/NAME; it is run on nothing.
+$(PROGRAMS): kit
+	@(cd crates/$@ && rt run < /dev/null) > target/$@.log 2>&1 || { cat target/$@.log; exit 1; }
 
 # Builds and runs the programs in C and Rust by the README's lines, and compares what they print with the second program's answers.
 examples: kit
 	@tools/x86 ready
-	@rt check survey > target/run.log 2>&1 || { cat target/run.log; exit 1; }
+	@$(MAKE) --no-print-directory survey
 	@python3 tools/examples.py -v
 
 # Plays N fresh scripts at random on the proved program and on the second one, and stops at the first difference.
 N := 20
-fuzz: kit
-	@rt check survey > target/run.log 2>&1 || { cat target/run.log; exit 1; }
+fuzz: survey
 	@python3 tools/fuzz.py $(N)
 
 # Times each call beside the same call in plain Rust, and how both grow with the spaces that stand (docs/PERFORMANCE.md).
@@ -57,24 +65,28 @@ bench: kit
 	@target/bench
 
 # Both sides as a release has them: the kit compiles the archive at -O3 for any x86-64, and so is the plain side here.
-target/bench: $(wildcard bench/*.rs bench/plain/*.rs) rust/fummidrake.rs target/staticlib/libfummidrake.a
+target/bench: $(wildcard bench/*.rs bench/plain/*.rs) rust/fummidrake.rs $(ARCHIVE)
 	@rustc --edition 2021 -C opt-level=3 -C codegen-units=1 -C target-cpu=x86-64 -L target/staticlib -l static=fummidrake bench/main.rs -o $@
 
 # Tests in C of what no proof reaches: the boundary between C and the calls, and the stack that each takes (`target/stack -v` prints it).
-target/boundary target/stack: target/%: tools/%.c include/fummidrake.h target/staticlib/libfummidrake.a
-	@tools/x86 cc -std=c11 -Wall -Wextra -Wpedantic -Werror -O1 -Iinclude $< target/staticlib/libfummidrake.a -o $@
+target/boundary target/stack: target/%: tools/%.c include/fummidrake.h $(ARCHIVE)
+	@tools/x86 cc -std=c11 -Wall -Wextra -Wpedantic -Werror -O1 -Iinclude $< $(ARCHIVE) -o $@
 
 # Brings header, archive and pkg-config file to PREFIX.
 PREFIX := /usr/local
 VERSION := $(shell cat VERSION)
-install: target/staticlib/libfummidrake.a
+install: $(ARCHIVE)
 	@install -d $(DESTDIR)$(PREFIX)/include $(DESTDIR)$(PREFIX)/lib/pkgconfig
 	@install -m 644 include/fummidrake.h $(DESTDIR)$(PREFIX)/include
-	@install -m 644 target/staticlib/libfummidrake.a $(DESTDIR)$(PREFIX)/lib
+	@install -m 644 $(ARCHIVE) $(DESTDIR)$(PREFIX)/lib
 	@sed 's|@PREFIX@|$(abspath $(PREFIX))|; s|@VERSION@|$(VERSION)|' include/fummidrake.pc.in > $(DESTDIR)$(PREFIX)/lib/pkgconfig/fummidrake.pc
 
-target/staticlib/libfummidrake.a: $(wildcard crates/*/src/*.rt) | kit
-	@rt staticlib fummidrake > target/staticlib.log 2>&1 || { cat target/staticlib.log; exit 1; }
+# Proves the calls for C and Rust and all that they stand on, over what was proved before, and writes the archive.
+archive: $(ARCHIVE)
+
+$(ARCHIVE): crates.txt $(wildcard crates/*/src/*.rt) | kit
+	@(cd crates/fummidrake_c && rt lib) > target/staticlib.log 2>&1 || { cat target/staticlib.log; exit 1; }
+	@install -m 644 -D crates/fummidrake_c/out/libfummidrake_c.a $@
 
 # Writes every stored input and expected output anew, from the second program.
 stored:

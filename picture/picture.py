@@ -1,6 +1,6 @@
 """A picture of a sheet, as SVG, from its listing: each space a box, the rooms inside it drawn inside it.
 
-    target/bin/sheetlist < FILE | python3 picture/picture.py > sheet.svg
+    crates/sheetlist/out/sheetlist < FILE | python3 picture/picture.py > sheet.svg
 
 It draws what the listing says, and judges nothing.
 """

@@ -3,7 +3,7 @@
  * were visited with every number, that decks, vessel number and form arrive in every struct, and that a call in place does what the
  * same call by value does. Prints nothing, or the first fault.
  *
- * Run at the root of the project, after `rt staticlib fummidrake`: see `make test`. */
+ * Run at the root of the project, after `make archive`: see `make test`. */
 #define _DEFAULT_SOURCE
 #include "fummidrake.h"
 

@@ -1,30 +1,56 @@
 #!/usr/bin/env python3
-"""Fails where a must-fail edit was refused only because its proof no longer fits the code's shape, which shows nothing: the first
-error of an edit has to be a fact that no longer holds.
+"""Fails where a must-fail edit shows nothing: one that was not tried, could not be applied or read, met a limit of the prover, or was
+refused only because its proof no longer fits the code's shape. What is said first of an edit has to be a fact that no longer holds.
 
-Run at the root of the project, after `rt ci`: python3 tools/edits.py
+Run at the root of the project, on what `rt ci` said, which `make proofs` keeps: python3 tools/edits.py [LOG]
+
+Of a goal that is new, and for which no values are found, nothing says whether it is false or has lost its answer. It is taken for a
+fact, but where the proof files of its module answer it under a name with another comparison in it.
 """
 import re
 import sys
 from pathlib import Path
 
-FAULT = re.compile(r'^error| error: |^fn .* `search` does not close `')
-SHAPE = re.compile(r"has no `Need|expected type `tie\.Need|is not a place of|has no field `")
+LOG = Path(sys.argv[1] if len(sys.argv) > 1 else 'target/ci.log')
+OK = re.compile(r'^rt: ok; .*', re.M)
+BAD = re.compile(r', \d+ bad\b')
+TRIED = re.compile(r'^rt: must-fail (\w+/[\w.-]+\.edit): (.*)', re.M)
+REFUSED = 'refused, as it must be: '
+SHAPE = re.compile(r'which was rejected, w|has no `|has no field|is not in scope|was not admitted|expected type `goal\.|has type `Lts\.')
+UNANSWERED = re.compile(r'note: src/(\w+)\.rt:\d+:\d+: it is not proved .*\(`([^`]+)`\)')
+ANSWER = re.compile(r'^(?:pub )?([a-z]\S*) :(?= |$)', re.M)
+COMPARISON = re.compile(r'(?<=-)(?:lt|le|gt|ge|eq|ne)(?![a-z])')
 
 
-def first_error(log: str) -> str:
-    """The first fault; of a function that has no proof file, the fact that the search no longer finds."""
-    return next((line for line in log.splitlines() if FAULT.search(line)), '')
+def lost_answer(crate: Path, module: str, goal: str) -> bool:
+    """Whether the module's proof files answer a goal only under a name with another comparison in it."""
+    answers = {name for path in crate.glob('proofs/**/Answers.antt') if module in ('lib', *path.parts) for name in ANSWER.findall(path.read_text())}
+    return goal not in answers and COMPARISON.sub('', goal) in {COMPARISON.sub('', name) for name in answers}
+
+
+def fault(edit: Path, said: str) -> str:
+    """What is wrong with an edit of which this was said; nothing where it was refused for a fact."""
+    if not said.startswith(REFUSED):
+        return said
+    error = said.removeprefix(REFUSED)
+    goal = UNANSWERED.fullmatch(error)
+    if SHAPE.search(error) or (goal and lost_answer(edit.parent.parent, goal[1], goal[2])):
+        return f'refused for the shape of its proof alone: {error}'
+    return ''
 
 
 def main() -> int:
+    log = LOG.read_text()
+    said = dict(TRIED.findall(log))
     faults = 0
     for edit in sorted(Path('crates').glob('*/must-fail/*.edit')):
-        log = Path('target/must-fail', edit.parts[1], edit.stem, '.log')
-        error = first_error(log.read_text()) if log.exists() else ''
-        if not error or SHAPE.search(error):
+        if found := fault(edit, said.get(f'{edit.parts[1]}/{edit.name}', 'not tried')):
             faults += 1
-            print(f'{edit}: refused for the shape of its proof alone: {error or "no error found"}')
+            print(f'{edit}: {found}')
+    ended = OK.search(log)
+    if not ended or BAD.search(ended[0]):
+        faults += 1
+        print(f'{LOG}: {ended[0] if ended else "no line `rt: ok`"}')
     return 1 if faults else 0
 
 

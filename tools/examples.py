@@ -9,7 +9,7 @@ among these.
 A line that compiles C or runs a program goes by tools/x86, which does the same on a machine of another kind; where no Rust is compiled
 for x86-64, the examples in Rust are left out.
 
-Run at the root of the project, after `rt check survey`: python3 tools/examples.py [-v]   (-v prints what each line prints)
+Run at the root of the project, after `make survey`: python3 tools/examples.py [-v]   (-v prints what each line prints)
 """
 import re
 import subprocess
@@ -24,7 +24,7 @@ ANSWERS = {
 }
 # Each line of the README that must print the answers of a script; `survey` prints them without the calls' names.
 RUNS = {'target/survey_c': 'barge', 'target/survey_rust': 'barge', 'target/tank_c': 'tank', 'target/tank_rust': 'tank'}
-PLAYS = {'target/bin/survey < examples/tank.txt': 'tank', 'target/bin/survey < examples/tug.txt': 'tug'}
+PLAYS = {'crates/survey/out/survey < examples/tank.txt': 'tank', 'crates/survey/out/survey < examples/tug.txt': 'tug'}
 # The line that moves the example barge's file up to form 2; that file, what it must be there, and what the line writes.
 MOVES = 'target/move_up < examples/barge.day > target/barge_form_2.day'
 BARGE, BARGE_FORM_2, MOVED = Path('examples/barge.day'), Path('examples/barge_form_2.day'), Path('target/barge_form_2.day')
@@ -96,9 +96,9 @@ def wrongly_moved() -> str:
 
 
 def on_this_machine(line: str) -> str:
-    """A line of the README as any machine has it: gcc compiles for x86-64, and a program under target/ is one for x86-64."""
+    """A line of the README as any machine has it: gcc compiles for x86-64, and a program under target/ or crates/ is one for x86-64."""
     by_compiler = re.sub(r'(^|&& )gcc ', r'\1tools/x86 cc ', line)
-    return re.sub(r'(^|&& )(?=target/)', r'\1tools/x86 run ', by_compiler)
+    return re.sub(r'(^|&& )(?=target/|crates/)', r'\1tools/x86 run ', by_compiler)
 
 
 def printed(line: str) -> str:

@@ -2,7 +2,7 @@
 """Plays fresh scripts of calls at random on the proved program and on the second one, and stops at the first that they answer
 differently: the script is left in target/fuzz.txt, and the first line that differs is printed.
 
-Run at the root of the project, after `rt check survey`:  python3 tools/fuzz.py SCRIPTS [SEED]
+Run at the root of the project, after `make survey`:  python3 tools/fuzz.py SCRIPTS [SEED]
 """
 import subprocess
 import sys
@@ -14,7 +14,7 @@ sys.path.insert(0, '.')
 from reference import survey  # noqa: E402
 from reference.scripts import script  # noqa: E402
 
-PROGRAM = ('tools/x86', 'run', 'target/bin/survey')
+PROGRAM = ('tools/x86', 'run', 'crates/survey/out/survey')
 KEPT = Path('target/fuzz.txt')
 CALLS = 1500  # of a script
 

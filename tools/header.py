@@ -244,7 +244,7 @@ def differences(what: Path, expected: Iterator[str], found: Iterator[str]) -> It
 def faults() -> Iterator[str]:
     exported = exports()
     handed = structs({kind for one in exported for kind in (one.result, *one.parameters.values())})
-    if SOURCE.read_text().count('no_mangle') != len(exported):
+    if SOURCE.read_text().count('#[unsafe(no_mangle)]') != len(exported):
         yield f'{SOURCE}: an exported function that is not understood'
     yield from (f'{SOURCE}: {one.name} is not as in {CALLS}' for one in exported if one not in calls())
     yield from (f'{SOURCE}: lacks {one.name}' for one in calls() if one.name not in {other.name for other in exported})

@@ -7,7 +7,7 @@
 - `make install` brings header, archive and pkg-config file of this version, and by its flags the example in C compiles and prints
   examples/answers.txt.
 
-Run at the root of the project, after `rt staticlib fummidrake`: python3 tools/installed.py
+Run at the root of the project, after `make archive`: python3 tools/installed.py
 """
 import os
 import re

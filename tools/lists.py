@@ -1,7 +1,7 @@
 #!/usr/bin/env python3
 """Fails where the program sheetlist lists one of some thousands of generated files otherwise than the second program.
 
-Run at the root of the project, after `rt check sheetlist`:  python3 tools/lists.py [PROGRAM]
+Run at the root of the project, after `make sheetlist`:  python3 tools/lists.py [PROGRAM]
 """
 import os
 import subprocess
@@ -13,7 +13,7 @@ sys.path.insert(0, '.')
 from reference.files import listings  # noqa: E402
 
 
-PROGRAM = sys.argv[1] if len(sys.argv) > 1 else 'target/bin/sheetlist'
+PROGRAM = sys.argv[1] if len(sys.argv) > 1 else 'crates/sheetlist/out/sheetlist'
 
 
 def difference(name: str, file: bytes, expected: str) -> str:

@@ -5,7 +5,7 @@
  * last the U: upright, and pointed with no area there and with some. Files are written, read and moved in both forms. Prints nothing, or
  * the calls that take more than the header says; with -v what each takes.
  *
- * Run at the root of the project, after `rt staticlib fummidrake`: see `make test`. */
+ * Run at the root of the project, after `make archive`: see `make test`. */
 #define _DEFAULT_SOURCE
 #include "fummidrake.h"
 
