@@ -64,9 +64,9 @@ bench: kit
 	@$(MAKE) --no-print-directory target/bench
 	@target/bench
 
-# Both sides as a release has them: the kit compiles the archive at -O3 for any x86-64, and so is the plain side here.
+# Both sides as a release has them: the kit compiles the archive at -O3 for x86-64 of level v2, and so is the plain side here.
 target/bench: $(wildcard bench/*.rs bench/plain/*.rs) rust/fummidrake.rs $(ARCHIVE)
-	@rustc --edition 2021 -C opt-level=3 -C codegen-units=1 -C target-cpu=x86-64 -L target/staticlib -l static=fummidrake bench/main.rs -o $@
+	@rustc --edition 2021 -C opt-level=3 -C codegen-units=1 -C target-cpu=x86-64-v2 -L target/staticlib -l static=fummidrake bench/main.rs -o $@
 
 # Tests in C of what no proof reaches: the boundary between C and the calls, and the stack that each takes (`target/stack -v` prints it).
 target/boundary target/stack: target/%: tools/%.c include/fummidrake.h $(ARCHIVE)
