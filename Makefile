@@ -12,7 +12,7 @@ SHELL := bash
 .PHONY: test proofs reference-tests run examples fuzz bench archive install stored kit $(PROGRAMS)
 
 test: kit
-	@tools/x86 ready
+	@tools/needs
 	@python3 tools/promises.py
 	@python3 tools/mapped.py
 	@python3 tools/header.py
@@ -23,9 +23,10 @@ test: kit
 	@python3 tools/examples.py
 	@python3 tools/installed.py
 	@$(MAKE) --no-print-directory target/boundary target/stack
-	@tools/x86 run target/boundary
-	@tools/x86 run target/stack
-	@! tools/x86 rust || { $(MAKE) --no-print-directory target/bench && target/bench --check; }
+	@target/boundary
+	@target/stack
+	@$(MAKE) --no-print-directory target/bench
+	@target/bench --check
 
 # Every proof, edit, program and layout, with nothing before it and nothing beside it, since `rt` takes every processor. What it says is
 # kept: it alone tells what each edit came to.
@@ -40,8 +41,8 @@ reference-tests:
 
 # Proves the library and the programs over it, then plays the example barge's morning and lists the sheet that it wrote.
 run: survey sheetlist
-	@tools/x86 run crates/survey/out/survey < examples/barge.txt
-	@tools/x86 run crates/sheetlist/out/sheetlist < examples/barge.day
+	@crates/survey/out/survey < examples/barge.txt
+	@crates/sheetlist/out/sheetlist < examples/barge.day
 
 # Proves a program and all that it stands on, over what was proved before, and builds it, crates/NAME/out/NAME; it is run on nothing.
 $(PROGRAMS): kit
@@ -49,7 +50,7 @@ $(PROGRAMS): kit
 
 # Builds and runs the programs in C and Rust by the README's lines, and compares what they print with the second program's answers.
 examples: kit
-	@tools/x86 ready
+	@tools/needs
 	@$(MAKE) --no-print-directory survey
 	@python3 tools/examples.py -v
 
@@ -60,7 +61,6 @@ fuzz: survey
 
 # Times each call beside the same call in plain Rust, and how both grow with the spaces that stand (docs/PERFORMANCE.md).
 bench: kit
-	@tools/x86 rust || { echo "make bench needs x86-64: times under an emulator say nothing"; exit 1; }
 	@$(MAKE) --no-print-directory target/bench
 	@target/bench
 
@@ -70,7 +70,7 @@ target/bench: $(wildcard bench/*.rs bench/plain/*.rs) rust/fummidrake.rs $(ARCHI
 
 # Tests in C of what no proof reaches: the boundary between C and the calls, and the stack that each takes (`target/stack -v` prints it).
 target/boundary target/stack: target/%: tools/%.c include/fummidrake.h $(ARCHIVE)
-	@tools/x86 cc -std=c11 -Wall -Wextra -Wpedantic -Werror -O1 -Iinclude $< $(ARCHIVE) -o $@
+	@gcc -std=c11 -Wall -Wextra -Wpedantic -Werror -O1 -Iinclude $< $(ARCHIVE) -o $@
 
 # Brings header, archive and pkg-config file to PREFIX.
 PREFIX := /usr/local

@@ -6,9 +6,6 @@ and examples/tug_answers.txt; where a day's file moved up isn't what the second 
 README's few lines of C or Rust answer another number than it says of them, or its sections on the tank and the tug quote an answer that isn't
 among these.
 
-A line that compiles C or runs a program goes by tools/x86, which does the same on a machine of another kind; where no Rust is compiled
-for x86-64, the examples in Rust are left out.
-
 Run at the root of the project, after `make survey`: python3 tools/examples.py [-v]   (-v prints what each line prints)
 """
 import re
@@ -89,20 +86,14 @@ def wrongly_moved() -> str:
     for day, status, moved in (
         (b'', 0, b''), (old + new + old, 0, 3 * new), (b'x' + old, 1, b''), (too_long, 1, b''), (bytes(65_537), 1, b''),
     ):
-        run = subprocess.run(['tools/x86', 'run', 'target/move_up'], input=day, capture_output=True)
+        run = subprocess.run(['target/move_up'], input=day, capture_output=True)
         if (run.returncode, run.stdout) != (status, moved):
             return f'target/move_up: exit status {run.returncode} and {len(run.stdout)} bytes of a day of {len(day)}'
     return ''
 
 
-def on_this_machine(line: str) -> str:
-    """A line of the README as any machine has it: gcc compiles for x86-64, and a program under target/ or crates/ is one for x86-64."""
-    by_compiler = re.sub(r'(^|&& )gcc ', r'\1tools/x86 cc ', line)
-    return re.sub(r'(^|&& )(?=target/|crates/)', r'\1tools/x86 run ', by_compiler)
-
-
 def printed(line: str) -> str:
-    run = subprocess.run(on_this_machine(line), shell=True, stdout=subprocess.PIPE, stderr=subprocess.STDOUT, text=True)
+    run = subprocess.run(line, shell=True, stdout=subprocess.PIPE, stderr=subprocess.STDOUT, text=True)
     if run.returncode:
         sys.exit(f'{line}: exit status {run.returncode}\n{run.stdout}')
     return run.stdout
@@ -118,7 +109,6 @@ def answers_to(line: str) -> str | None:
 
 
 def main() -> int:
-    rust = subprocess.run(['tools/x86', 'rust']).returncode == 0
     lines = [(section, line) for section in SECTIONS for line in lines_of(section)]
     if missing := {*RUNS, *PLAYS, MOVES} - {line for _, line in lines}:
         print(f'README.md: no line {", ".join(sorted(missing))}')
@@ -127,8 +117,6 @@ def main() -> int:
         print(f'README.md: quotes {", ".join(wrong)}, which the second program doesn\'t answer')
         return 1
     for section, line in lines:
-        if 'rust' in line and not rust:
-            continue
         found = printed(line)
         if '-v' in sys.argv:
             print(f'$ {line}\n{found}', end='')
@@ -139,8 +127,7 @@ def main() -> int:
         print(wrong)
         return 1
     for section in CALLS:
-        if rust or 'Rust' not in section:
-            try_code(section)
+        try_code(section)
     return 0
 
 

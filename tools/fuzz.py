@@ -14,7 +14,7 @@ sys.path.insert(0, '.')
 from reference import survey  # noqa: E402
 from reference.scripts import script  # noqa: E402
 
-PROGRAM = ('tools/x86', 'run', 'crates/survey/out/survey')
+PROGRAM = ('crates/survey/out/survey',)
 KEPT = Path('target/fuzz.txt')
 CALLS = 1500  # of a script
 

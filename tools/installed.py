@@ -23,7 +23,7 @@ WANTED = {'memcpy', 'memmove', 'memset'}
 PREFIX = Path('target/installed').absolute()
 PACKAGE = PREFIX / 'lib/pkgconfig/fummidrake.pc'
 ANSWERS = Path('examples/answers.txt')
-COMPILER = ['tools/x86', 'cc']
+COMPILER = ['gcc']
 STRICT = ['-Wall', '-Wextra', '-Werror', '-S', '-o', '/dev/null']
 
 # A program that only takes the header, and one that drops an answer, the sheet of an undo in it.
@@ -40,7 +40,7 @@ def run(*words: str, given: str = '') -> subprocess.CompletedProcess:
 # The archive
 
 def archive_faults() -> Iterator[str]:
-    listed = run('tools/x86', 'nm', '-g', str(ARCHIVE)).stdout
+    listed = run('nm', '-g', str(ARCHIVE)).stdout
     found = re.findall(r'(?m)^(?:[0-9a-f]+| +) ([A-Z]) (\w+)$', listed)
     wanted = {name for letter, name in found if letter == 'U'}
     own = {name for letter, name in found if letter == 'T'}
@@ -87,8 +87,6 @@ LINES = {
 
 def rust_faults() -> Iterator[str]:
     """Each line, and what the compiler must say against it."""
-    if run('tools/x86', 'rust').returncode:
-        return
     for line, expected in LINES.items():
         program = MODULE.replace('RUST', str(Path('rust/fummidrake.rs').absolute())).replace('LINE', line)
         tried = run('rustc', '--edition', '2021', '-D', 'warnings', '--emit=metadata', '-o', 'target/line.rmeta', '-', given=program)
@@ -122,7 +120,7 @@ def install_faults() -> Iterator[str]:
     if f'\nVersion: {Path("VERSION").read_text()}' not in PACKAGE.read_text():
         yield f'{PACKAGE}: not the version in VERSION'
     built = run(*COMPILER, 'examples/c/survey.c', *flags_of_package(), '-o', 'target/survey_installed')
-    printed = built if built.returncode else run('tools/x86', 'run', 'target/survey_installed')
+    printed = built if built.returncode else run('target/survey_installed')
     if printed.returncode or printed.stdout != ANSWERS.read_text():
         yield f'the example against what is installed: not {ANSWERS}:\n{printed.stdout}'
 

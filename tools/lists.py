@@ -18,7 +18,7 @@ PROGRAM = sys.argv[1] if len(sys.argv) > 1 else 'crates/sheetlist/out/sheetlist'
 
 def difference(name: str, file: bytes, expected: str) -> str:
     """What the program prints of a file otherwise than expected; none is empty."""
-    run = subprocess.run(('tools/x86', 'run', PROGRAM), input=file, stdout=subprocess.PIPE)
+    run = subprocess.run((PROGRAM,), input=file, stdout=subprocess.PIPE)
     if (run.returncode, run.stdout) == (0, expected.encode('ascii')):
         return ''
     found = run.stdout.decode('ascii', 'backslashreplace')
@@ -30,7 +30,6 @@ expected:
 
 
 def main() -> int:
-    # an emulated program takes some hundredths of a second to start, so every processor has its own
     with ThreadPoolExecutor(os.cpu_count()) as processors:
         differences = list(processors.map(difference, *zip(*listings())))
     print(next(filter(None, differences), f'{len(differences)} files listed alike'))
