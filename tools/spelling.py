@@ -1,7 +1,7 @@
 #!/usr/bin/env python3
 """Turns the repository's own definitions and lemmas to the spelling of today's Rattle: words in snake case, modules in camel case.
 
-usage: tools/spelling.py          at the top of the repository, once, after /opt/rattle/port/port.py
+usage: tools/spelling.py          at the top of the repository, once, after the port.py of the kit
 
 A name is turned where one of the repository's .antt files declares it, or a `use` line gives it (`as`): `tableParts` and
 `table-is` become `table_parts` and `table_is`. Names that begin with a capital are types and stay. Functions of src/, exported C
