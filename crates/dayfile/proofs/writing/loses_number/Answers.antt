@@ -16,9 +16,9 @@ use Rattle.std.proofs.Common.{rules}
 use Rattle.dayfile.proofs.writing.loses_number.Goals as goal
 
 -- the deck looked at, and those behind it
-looked-at : (form : Form) (count : ℕ) (spaces : List Space) (i : ℕ) → count ≤ length spaces → i < count
+looked_at : (form : Form) (count : ℕ) (spaces : List Space) (i : ℕ) → count ≤ length spaces → i < count
     → loses_deck form (drop i (take count spaces)) ≡ (lost form.deck (get_or spaces i empty_space).deck || loses_deck form (drop (i + 1) (take count spaces)))
-looked-at form count spaces i few h =
+looked_at form count spaces i few h =
     let n = length-take-le count spaces few in
     deck_looked_at form (take count spaces) i (omega (arith, n))
     ∙ ap (λ (x : Space). lost form.deck x.deck || loses_deck form (drop (i + 1) (take count spaces))) (get_or-take count spaces i empty_space h)
@@ -33,7 +33,7 @@ returns-then-lost-2 c =
     let full : length a.spaces ≡ 200 = search rules in
     let here : loses_deck a.form (take a.count a.spaces) ≡ true =
     sym l.invariant.1
-    ∙ looked-at a.form a.count a.spaces l.i (omega (arith, full)) c.loop-i-test.true
+    ∙ looked_at a.form a.count a.spaces l.i (omega (arith, full)) c.loop-i-test.true
     ∙ ap (λ (t : Bool). t || loses_deck a.form (drop (l.i + 1) (take a.count a.spaces))) (sym c.lost-in-loop-i.ensures ∙ c.if-lost-2.true) in
     rw (sym c.lost.ensures ∙ c.if-lost.false, here)
 
@@ -45,7 +45,7 @@ loop-i-preserved c =
       search rules,
       sym
           (ap (λ (t : Bool). t || loses_deck a.form (drop (l.i + 1) (take a.count a.spaces))) (sym c.lost-in-loop-i.ensures ∙ c.if-lost-2.false))
-          ∙ sym (looked-at a.form a.count a.spaces l.i (omega (arith, full)) c.loop-i-test.true)
+          ∙ sym (looked_at a.form a.count a.spaces l.i (omega (arith, full)) c.loop-i-test.true)
           ∙ l.invariant.1,
     )
 

@@ -33,30 +33,27 @@ module _ (t l : Hundredths) (ds bs : List ℕ) {r : Bool} (ranged : r ≡ in_ran
 
 pub returns-then-not-in_range : goal.returns-then-not-in_range
 returns-then-not-in_range c =
-    let a = c.before.before.before.before.args in
-    out_of_range a.tonnage_length a.length a.depths.now a.breadths.now c.before.in_range.ensures c.if-not-in_range.true
+    let a = c.args in
+    out_of_range a.tonnage_length a.length a.depths.now a.breadths.now c.in_range.ensures c.if-not-in_range.true
 
 pub returns-then-not-counted : goal.returns-then-not-counted
 returns-then-not-counted c =
-    let r = c.before.before in
-    let a = r.before.before.before.before.args in
-    miscounted a.tonnage_length a.length a.depths.now a.breadths.now r.before.in_range.ensures r.if-not-in_range.false c.before.counted.ensures c.if-not-counted.true
+    let a = c.args in
+    miscounted a.tonnage_length a.length a.depths.now a.breadths.now c.in_range.ensures c.if-not-in_range.false c.counted.ensures c.if-not-counted.true
 
 -- behind both tests
-taken : (c : After-of_depth) → (let a = c.before.before.before.before.before.before.before.before.args in Taken UnderDeck a.tonnage_length a.length a.depths.now a.breadths.now)
+taken : (c : After-of_depth) → (let a = c.args in Taken UnderDeck a.tonnage_length a.length a.depths.now a.breadths.now)
 taken c =
-    let n = c.before.before in
-    let r = n.before.before in
-    let a = r.before.before.before.before.args in
-    both_hold a.tonnage_length a.length a.depths.now a.breadths.now r.before.in_range.ensures r.if-not-in_range.false n.before.counted.ensures n.if-not-counted.false
+    let a = c.args in
+    both_hold a.tonnage_length a.length a.depths.now a.breadths.now c.in_range.ensures c.if-not-in_range.false c.counted.ensures c.if-not-counted.false
 
-handed : (c : After-of_depth) → (let a = c.before.before.before.before.before.before.before.before.args in UnderDeckHanded a.length (under_deck_parts a.tonnage_length a.length) (depth_parts (middle_of a.depths.now)) a.depths.now a.breadths.now)
+handed : (c : After-of_depth) → (let a = c.args in UnderDeckHanded a.length (under_deck_parts a.tonnage_length a.length) (depth_parts (middle_of a.depths.now)) a.depths.now a.breadths.now)
 handed c =
-    let a = c.before.before.before.before.before.before.before.before.args in
+    let a = c.args in
     under_deck_taken a.tonnage_length a.length a.depths.now a.breadths.now (taken c)
 
-depth_parts_lem : (c : After-of_depth) → c.of_depth.result ≡ depth_parts (middle_of c.before.before.before.before.before.before.before.before.args.depths.now)
-depth_parts_lem c = c.of_depth.ensures ∙ ap depth_parts c.before.middle_of.ensures
+depth_parts_lem : (c : After-of_depth) → c.of_depth.result ≡ depth_parts (middle_of c.args.depths.now)
+depth_parts_lem c = c.of_depth.ensures ∙ ap depth_parts c.middle_of.ensures
 
 pub section_areas-areas-requires : goal.section_areas-areas-requires
 section_areas-areas-requires c = rw (depth_parts_lem c) (handed c).sections
@@ -69,8 +66,7 @@ bounds-areas-depths c = omega (arith, (handed (goal.at.bounds-areas-depths c).Af
 
 pub returns : goal.returns
 returns c =
-    let d = c.before in
-    let a = d.before.before.before.before.before.before.before.before.args in
+    let a = c.args in
     let ds = a.depths.now in
     let bs = a.breadths.now in
     ends_found ds bs c.section_areas-areas.result (omega (arith, (handed (goal.at.returns c).After-of_depth).stations))

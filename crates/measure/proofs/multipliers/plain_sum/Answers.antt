@@ -12,11 +12,10 @@ loop-i-init c = (omega arith, zero-add _, omega arith)
 
 pub loop-i-preserved : goal.loop-i-preserved
 loop-i-preserved c =
-    let l = c.before.before.before in
-    let st = total_step l.loop-i.i l.before.before.args.values.now c.before.before.loop-i-test.true in
+    let st = total_step c.loop-i.i c.args.values.now c.loop-i-test.true in
     (omega arith, omega arith, omega arith)
 
 pub returns : goal.returns
 returns c =
-    let e = ap total (drop_of_length-le c.before.before.before.args.values.now c.loop-i-test.false) in
+    let e = ap total (drop_of_length-le c.args.values.now c.loop-i-test.false) in
     omega arith

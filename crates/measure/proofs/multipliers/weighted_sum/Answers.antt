@@ -14,29 +14,26 @@ unfolding weighted
 loop-i-init c = (omega arith, zero-add _, omega arith)
 
 -- a turn's term is at most four times a measure
-term-le : (c : goal.After-wide) → c.before.before.multiplier.result * c.wide.result ≤ 4 * 2 ^ 32
-term-le c =
-    let l = c.before.before.before.before in
-    let h = multiplier_le l.before.before.args.parts (l.loop-i.i + 1) in
+term_le : (c : goal.After-wide) → c.multiplier.result * c.wide.result ≤ 4 * 2 ^ 32
+term_le c =
+    let h = multiplier_le c.args.parts (c.loop-i.i + 1) in
     at_most 4 (2 ^ 32) (omega arith) (omega arith)
 
 pub overflow_mul-sum : goal.overflow_mul-sum
-overflow_mul-sum c = omega (arith, term-le c)
+overflow_mul-sum c = omega (arith, term_le c)
 
 pub overflow_add-sum : goal.overflow_add-sum
-overflow_add-sum c = omega (arith, term-le c)
+overflow_add-sum c = omega (arith, term_le c)
 
 pub loop-i-preserved : goal.loop-i-preserved
 loop-i-preserved c =
-    let l = c.before.before.before.before in
-    let n = l.before.before.args.parts in
-    let t = term-le c in
-    let e = ap₂ ◌*◌ c.before.before.multiplier.ensures c.wide.ensures.0 in
-    let st = weighted_step n l.loop-i.i l.before.before.args.values.now c.before.before.before.loop-i-test.true in
+    let n = c.args.parts in
+    let t = term_le c in
+    let e = ap₂ ◌*◌ c.multiplier.ensures c.wide.ensures.0 in
+    let st = weighted_step n c.loop-i.i c.args.values.now c.loop-i-test.true in
     (omega arith, omega arith, omega arith)
 
 pub returns : goal.returns
 returns c =
-    let s = c.before.before.before in
-    let e = ap (weighted_from s.args.parts (c.before.loop-i.i + 1)) (drop_of_length-le s.args.values.now c.loop-i-test.false) in
+    let e = ap (weighted_from c.args.parts (c.loop-i.i + 1)) (drop_of_length-le c.args.values.now c.loop-i-test.false) in
     omega arith

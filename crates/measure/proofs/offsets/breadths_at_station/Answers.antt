@@ -9,4 +9,4 @@ pub overflow_add-result : goal.overflow_add-result
 overflow_add-result c = omega (arith, most (depth_even c.args.middle))
 
 pub returns-in-UnderDeck : goal.returns-in-UnderDeck
-returns-in-UnderDeck c = rw c.before.in-UnderDeck.is (ap (λ (m : ℕ). m + 1) c.of_depth.ensures)
+returns-in-UnderDeck c = rw c.in-UnderDeck.is (ap (λ (m : ℕ). m + 1) c.of_depth.ensures)

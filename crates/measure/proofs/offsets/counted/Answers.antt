@@ -11,18 +11,16 @@ use Rattle.measure.proofs.offsets.counted.Goals as goal
 
 pub returns-then-heights-stations : goal.returns-then-heights-stations
 unfolding counted
-returns-then-heights-stations c = sym (simp (ne_eqb _ _ (rw c.before.stations.ensures at c.if-heights-stations.true)))
+returns-then-heights-stations c = sym (simp (ne_eqb _ _ (rw c.stations.ensures at c.if-heights-stations.true)))
 
 pub overflow_mul-result : goal.overflow_mul-result
 unfolding stations
 overflow_mul-result c =
-    let s = c.before.before.before.before.before.before in
-    let p = parts_most s.args.kind s.args.tonnage_length s.args.length in
-    let b = breadths_at_station_le s.args.kind c.before.middle_of.result in
+    let p = parts_most c.args.kind c.args.tonnage_length c.args.length in
+    let b = breadths_at_station_le c.args.kind c.middle_of.result in
     record { fits = below 17 17 (2 ^ 64) tt (omega arith) (omega arith) }
 
 pub returns : goal.returns
 unfolding counted
 returns c =
-    let t = c.before.before.before in
-    sym (simp (eq-eqb _ _ (c.before.before.if-heights-stations.false ∙ t.stations.ensures), sym c.before.middle_of.ensures, sym c.breadths_at_station.ensures))
+    sym (simp (eq-eqb _ _ (c.if-heights-stations.false ∙ c.stations.ensures), sym c.middle_of.ensures, sym c.breadths_at_station.ensures))

@@ -9,43 +9,31 @@ use Rattle.measure.proofs.offsets.in_range.Goals as goal
 
 pub returns-then-not-is_kind : goal.returns-then-not-is_kind
 unfolding in_range
-returns-then-not-is_kind c = simp (fails c.before.is_kind.ensures c.if-not-is_kind.true)
+returns-then-not-is_kind c = simp (fails c.is_kind.ensures c.if-not-is_kind.true)
 
 pub returns-then-not-tonnage_length_fits : goal.returns-then-not-tonnage_length_fits
 unfolding in_range
 returns-then-not-tonnage_length_fits c =
-    let k = c.before.before in
-    simp (holds k.before.is_kind.ensures k.if-not-is_kind.false, fails c.before.tonnage_length_fits.ensures c.if-not-tonnage_length_fits.true)
+    simp (holds c.is_kind.ensures c.if-not-is_kind.false, fails c.tonnage_length_fits.ensures c.if-not-tonnage_length_fits.true)
 
 pub returns-then-not-length_fits : goal.returns-then-not-length_fits
 unfolding in_range
 returns-then-not-length_fits c =
-    let t = c.before.before in
-    let k = t.before.before in
-    simp (holds k.before.is_kind.ensures k.if-not-is_kind.false, holds t.before.tonnage_length_fits.ensures t.if-not-tonnage_length_fits.false, fails c.before.length_fits.ensures c.if-not-length_fits.true)
+    simp (holds c.is_kind.ensures c.if-not-is_kind.false, holds c.tonnage_length_fits.ensures c.if-not-tonnage_length_fits.false, fails c.length_fits.ensures c.if-not-length_fits.true)
 
-heights-test : (c : After-includes_all) → (let s = c.before.before.before.before.before.before.before.before.before.before in c.includes_all.result ≡ includes_all (heights s.args.kind) s.args.heights.now)
-heights-test c =
-    let s = c.before.before.before.before.before.before.before.before.before.before in
-    c.includes_all.ensures ∙ ap (λ (r : Range). includes_all r s.args.heights.now) c.before.heights.ensures
+heights_test : (c : After-includes_all) → (c.includes_all.result ≡ includes_all (heights c.args.kind) c.args.heights.now)
+heights_test c =
+    c.includes_all.ensures ∙ ap (λ (r : Range). includes_all r c.args.heights.now) c.heights.ensures
 
 pub returns-then-not-includes_all : goal.returns-then-not-includes_all
 unfolding in_range
 returns-then-not-includes_all c =
-    let l = c.before.before.before in
-    let t = l.before.before in
-    let k = t.before.before in
     simp
-    (holds k.before.is_kind.ensures k.if-not-is_kind.false, holds t.before.tonnage_length_fits.ensures t.if-not-tonnage_length_fits.false, holds l.before.length_fits.ensures l.if-not-length_fits.false, fails (heights-test (goal.at.returns-then-not-includes_all c).After-includes_all) c.if-not-includes_all.true)
+    (holds c.is_kind.ensures c.if-not-is_kind.false, holds c.tonnage_length_fits.ensures c.if-not-tonnage_length_fits.false, holds c.length_fits.ensures c.if-not-length_fits.false, fails (heights_test (goal.at.returns-then-not-includes_all c).After-includes_all) c.if-not-includes_all.true)
 
 pub returns : goal.returns
 unfolding in_range
 returns c =
-    let h = c.before.before in
-    let l = h.before.before.before in
-    let t = l.before.before in
-    let k = t.before.before in
-    let s = k.before.before.before.before in
     simp
-    (holds k.before.is_kind.ensures k.if-not-is_kind.false, holds t.before.tonnage_length_fits.ensures t.if-not-tonnage_length_fits.false, holds l.before.length_fits.ensures l.if-not-length_fits.false, holds (heights-test (goal.at.returns c).After-includes_all) h.if-not-includes_all.false)
-    (c.includes_all-2.ensures ∙ ap (λ (r : Range). includes_all r s.args.breadths.now) c.before.breadths.ensures)
+    (holds c.is_kind.ensures c.if-not-is_kind.false, holds c.tonnage_length_fits.ensures c.if-not-tonnage_length_fits.false, holds c.length_fits.ensures c.if-not-length_fits.false, holds (heights_test (goal.at.returns c).After-includes_all) c.if-not-includes_all.false)
+    (c.includes_all-2.ensures ∙ ap (λ (r : Range). includes_all r c.args.breadths.now) c.breadths.ensures)

@@ -6,7 +6,7 @@ use native.Mathlib.Omega.{arith}
 use Rattle.measure.proofs.offsets.m_of.Goals as goal
 
 pub overflow_cast-result : goal.overflow_cast-result
-overflow_cast-result c = omega (arith, most (depth_even c.before.middle_of.result))
+overflow_cast-result c = omega (arith, most (depth_even c.middle_of.result))
 
 pub returns-in-UnderDeck : goal.returns-in-UnderDeck
-returns-in-UnderDeck c = rw c.before.before.in-UnderDeck.is (c.of_depth.ensures ∙ ap depth_parts c.before.middle_of.ensures)
+returns-in-UnderDeck c = rw c.in-UnderDeck.is (c.of_depth.ensures ∙ ap depth_parts c.middle_of.ensures)

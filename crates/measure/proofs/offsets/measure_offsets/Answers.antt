@@ -26,27 +26,23 @@ module _ (code : ℕ) (t l : Hundredths) (hs bs : List ℕ) {m : Measured} (is :
   unfolding measured_offsets
   accepted none passed = rw (is, passed, eq-eqb _ 0 (rw is at none))
 
-  few-stations : m.number ≡ 0 → length hs ≤ 17
-  few-stations none =
+  few_stations : m.number ≡ 0 → length hs ≤ 17
+  few_stations none =
       let taken = accepted_taken code t l hs bs (rw is at none) in
       omega (arith, taken_stations (kind_of code) t l hs bs taken, parts_most (kind_of code) t l)
 
 pub returns-then-measured-ne0 : goal.returns-then-measured-ne0
 returns-then-measured-ne0 c =
-    let m = c.before.before.before in
-    let a = m.before.before.before.args in
-    refused a.code a.tonnage_length a.length a.heights.now a.breadths.now m.tonnage_or_refusal-measured.ensures c.before.if-measured-ne0.true c.none.ensures
+    let a = c.args in
+    refused a.code a.tonnage_length a.length a.heights.now a.breadths.now c.tonnage_or_refusal-measured.ensures c.if-measured-ne0.true c.none.ensures
 
 pub passed_on-requires : goal.passed_on-requires
 passed_on-requires c =
-    let m = c.before.before.before in
-    let a = m.before.before.before.args in
-    few-stations a.code a.tonnage_length a.length a.heights.now a.breadths.now m.tonnage_or_refusal-measured.ensures c.before.if-measured-ne0.false
+    let a = c.args in
+    few_stations a.code a.tonnage_length a.length a.heights.now a.breadths.now c.tonnage_or_refusal-measured.ensures c.if-measured-ne0.false
 
 pub returns : goal.returns
 returns c =
-    let k = c.before in
-    let m = k.before.before.before in
-    let a = m.before.before.before.args in
-    accepted a.code a.tonnage_length a.length a.heights.now a.breadths.now m.tonnage_or_refusal-measured.ensures k.before.if-measured-ne0.false
-    (c.passed_on.ensures ∙ ap (λ (kind : Kind). passed_on kind a.tonnage_length a.length a.heights.now) k.kind_of.ensures)
+    let a = c.args in
+    accepted a.code a.tonnage_length a.length a.heights.now a.breadths.now c.tonnage_or_refusal-measured.ensures c.if-measured-ne0.false
+    (c.passed_on.ensures ∙ ap (λ (kind : Kind). passed_on kind a.tonnage_length a.length a.heights.now) c.kind_of.ensures)

@@ -12,4 +12,4 @@ returns-then-at-depths c = search rules
 
 pub returns : goal.returns
 unfolding middle_of
-returns c = ap hundredths (sym (get_or-eq_default c.before.args.depths.now 0 c.if-at-depths.false))
+returns c = ap hundredths (sym (get_or-eq_default c.args.depths.now 0 c.if-at-depths.false))

@@ -12,7 +12,7 @@ use Rattle.measure.proofs.offsets.passed_on.Goals as goal
 pub returns : goal.returns
 unfolding passed_on
 returns c =
-    let back = to_z-of_z w8 c.before.before.divided.result.rounding (record { sfits = omega arith }) in
+    let back = to_z-of_z w8 c.divided.result.rounding (record { sfits = omega arith }) in
     ap₂ (λ (z : ℤ) (row : List ℤ). record { length = z; depths = row })
-    (back ∙ ap (λ (d : Division). d.rounding) c.before.before.divided.ensures)
-    c.before.depths_passed_on.ensures
+    (back ∙ ap (λ (d : Division). d.rounding) c.divided.ensures)
+    c.depths_passed_on.ensures

@@ -5,7 +5,7 @@ use native.Mathlib.Omega.{arith}
 use Rattle.measure.proofs.offsets.stations.Goals as goal
 
 pub overflow_add-result : goal.overflow_add-result
-overflow_add-result c = omega (arith, parts_most c.before.args.kind c.before.args.tonnage_length c.before.args.length)
+overflow_add-result c = omega (arith, parts_most c.args.kind c.args.tonnage_length c.args.length)
 
 pub returns : goal.returns
 unfolding stations

@@ -31,24 +31,16 @@ module _ (code : ℕ) (t l : Hundredths) (hs bs : List ℕ) {k : Kind} (kind : k
 
 pub returns-then-not-in_range : goal.returns-then-not-in_range
 returns-then-not-in_range c =
-    let s = c.before.before.before.before.before in
-    out_of_range s.args.code s.args.tonnage_length s.args.length s.args.heights.now s.args.breadths.now c.before.before.kind_of-kind.ensures c.before.in_range.ensures c.if-not-in_range.true
+    out_of_range c.args.code c.args.tonnage_length c.args.length c.args.heights.now c.args.breadths.now c.kind_of-kind.ensures c.in_range.ensures c.if-not-in_range.true
 
 pub returns-then-not-counted : goal.returns-then-not-counted
 returns-then-not-counted c =
-    let r = c.before.before in
-    let s = r.before.before.before.before.before in
-    miscounted s.args.code s.args.tonnage_length s.args.length s.args.heights.now s.args.breadths.now r.before.before.kind_of-kind.ensures r.before.in_range.ensures r.if-not-in_range.false c.before.counted.ensures c.if-not-counted.true
+    miscounted c.args.code c.args.tonnage_length c.args.length c.args.heights.now c.args.breadths.now c.kind_of-kind.ensures c.in_range.ensures c.if-not-in_range.false c.counted.ensures c.if-not-counted.true
 
 pub tonnage-requires : goal.tonnage-requires
 tonnage-requires c =
-    let r = c.before.before in
-    let s = r.before.before.before.before.before in
-    taken s.args.code s.args.tonnage_length s.args.length s.args.heights.now s.args.breadths.now r.before.before.kind_of-kind.ensures r.before.in_range.ensures r.if-not-in_range.false c.before.counted.ensures c.if-not-counted.false
+    taken c.args.code c.args.tonnage_length c.args.length c.args.heights.now c.args.breadths.now c.kind_of-kind.ensures c.in_range.ensures c.if-not-in_range.false c.counted.ensures c.if-not-counted.false
 
 pub returns : goal.returns
 returns c =
-    let n = c.before in
-    let r = n.before.before in
-    let s = r.before.before.before.before.before in
-    accepted s.args.code s.args.tonnage_length s.args.length s.args.heights.now s.args.breadths.now r.before.before.kind_of-kind.ensures r.before.in_range.ensures r.if-not-in_range.false n.before.counted.ensures n.if-not-counted.false c.tonnage.ensures
+    accepted c.args.code c.args.tonnage_length c.args.length c.args.heights.now c.args.breadths.now c.kind_of-kind.ensures c.in_range.ensures c.if-not-in_range.false c.counted.ensures c.if-not-counted.false c.tonnage.ensures

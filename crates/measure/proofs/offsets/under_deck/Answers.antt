@@ -17,16 +17,14 @@ by_parts : (t l : Hundredths) (hs bs : List ℕ) {n m r : ℕ} → n ≡ under_d
 unfolding tonnage
 by_parts t l hs bs parts depth_parts_lem e = rw (parts, depth_parts_lem) at e
 
-depth_parts_lem : (c : After-of_depth-m) → c.of_depth-m.result ≡ depth_parts (middle_of c.before.before.before.before.before.args.depths.now)
-depth_parts_lem c = c.of_depth-m.ensures ∙ ap depth_parts c.before.middle_of.ensures
+depth_parts_lem : (c : After-of_depth-m) → c.of_depth-m.result ≡ depth_parts (middle_of c.args.depths.now)
+depth_parts_lem c = c.of_depth-m.ensures ∙ ap depth_parts c.middle_of.ensures
 
 pub under_deck_tons-requires : goal.under_deck_tons-requires
 under_deck_tons-requires c =
-    let s = c.before.before.before.before.before in
-    rw (c.before.before.of_under_deck-n.ensures, depth_parts_lem c)
-    (under_deck_taken s.args.tonnage_length s.args.length s.args.depths.now s.args.breadths.now s.requires)
+    rw (c.of_under_deck-n.ensures, depth_parts_lem c)
+    (under_deck_taken c.args.tonnage_length c.args.length c.args.depths.now c.args.breadths.now c.requires)
 
 pub returns : goal.returns
 returns c =
-    let s = c.before.before.before.before.before.before in
-    by_parts s.args.tonnage_length s.args.length s.args.depths.now s.args.breadths.now c.before.before.before.of_under_deck-n.ensures (depth_parts_lem (goal.at.returns c).After-of_depth-m) c.under_deck_tons.ensures
+    by_parts c.args.tonnage_length c.args.length c.args.depths.now c.args.breadths.now c.of_under_deck-n.ensures (depth_parts_lem (goal.at.returns c).After-of_depth-m) c.under_deck_tons.ensures

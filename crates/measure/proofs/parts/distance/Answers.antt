@@ -15,17 +15,15 @@ overflow_mul-of_whole c = record { fits = below (2 ^ 32) 16 (2 ^ 64) tt (omega a
 pub returns-then-of_length-of_whole : goal.returns-then-of_length-of_whole
 unfolding distance
 returns-then-of_length-of_whole c =
-    let s = c.before.before.before in
-    let el = ap (λ (x : ℕ). x * s.args.parts) c.before.before.wide.ensures.0 in
-    let ew = ap (λ (x : ℕ). x * s.args.k) c.before.wide-2.ensures.0 in
-    let hw : c.before.wide-2.result * s.args.k < 2 ^ 37 = below (2 ^ 32) 16 (2 ^ 37) tt (omega arith) (omega arith) in
+    let el = ap (λ (x : ℕ). x * c.args.parts) c.wide.ensures.0 in
+    let ew = ap (λ (x : ℕ). x * c.args.k) c.wide-2.ensures.0 in
+    let hw : c.wide-2.result * c.args.k < 2 ^ 37 = below (2 ^ 32) 16 (2 ^ 37) tt (omega arith) (omega arith) in
     (omega arith, omega arith)
 
 pub returns-else-of_length-of_whole : goal.returns-else-of_length-of_whole
 unfolding distance
 returns-else-of_length-of_whole c =
-    let s = c.before.before.before in
-    let el = ap (λ (x : ℕ). x * s.args.parts) c.before.before.wide.ensures.0 in
-    let ew = ap (λ (x : ℕ). x * s.args.k) c.before.wide-2.ensures.0 in
-    let hl : c.before.before.wide.result * s.args.parts < 2 ^ 37 = below (2 ^ 32) 16 (2 ^ 37) tt (omega arith) (omega arith) in
+    let el = ap (λ (x : ℕ). x * c.args.parts) c.wide.ensures.0 in
+    let ew = ap (λ (x : ℕ). x * c.args.k) c.wide-2.ensures.0 in
+    let hl : c.wide.result * c.args.parts < 2 ^ 37 = below (2 ^ 32) 16 (2 ^ 37) tt (omega arith) (omega arith) in
     (omega arith, omega arith)

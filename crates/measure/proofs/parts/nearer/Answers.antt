@@ -14,8 +14,8 @@ overflow_mul-of_second c = record { fits = below (2 ^ 37) 16 (2 ^ 64) tt (omega 
 
 pub returns-then-of_second-of_first : goal.returns-then-of_second-of_first
 unfolding nearer
-returns-then-of_second-of_first c = simp (le-leb _ _ (rw (c.before.before.distance.ensures.0, c.before.distance-2.ensures.0) at c.if-of_second-of_first.true))
+returns-then-of_second-of_first c = simp (le-leb _ _ (rw (c.distance.ensures.0, c.distance-2.ensures.0) at c.if-of_second-of_first.true))
 
 pub returns-else-of_second-of_first : goal.returns-else-of_second-of_first
 unfolding nearer
-returns-else-of_second-of_first c = simp (lt-leb _ _ (rw (c.before.before.distance.ensures.0, c.before.distance-2.ensures.0) at c.if-of_second-of_first.false))
+returns-else-of_second-of_first c = simp (lt-leb _ _ (rw (c.distance.ensures.0, c.distance-2.ensures.0) at c.if-of_second-of_first.false))

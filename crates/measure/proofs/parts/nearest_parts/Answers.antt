@@ -12,20 +12,18 @@ loop-i-init c = (omega arith, refl)
 
 pub nearer-best-requires : goal.nearer-best-requires
 nearer-best-requires c =
-    let s = c.before.before in
-    let b = nearest_of_last_le s.args.whole s.args.parts s.args.length c.before.loop-i.i in
+    let b = nearest_of_last_le c.args.whole c.args.parts c.args.length c.loop-i.i in
     (omega arith, omega arith, omega arith)
 
 pub loop-i-preserved : goal.loop-i-preserved
 loop-i-preserved c =
-    let s = c.before.before.before in
-    let i = c.before.before.loop-i.i in
-    let f = nearest_of_last s.args.whole s.args.parts s.args.length in
+    let i = c.loop-i.i in
+    let f = nearest_of_last c.args.whole c.args.parts c.args.length in
     let e : c.nearer-best.result ≡ f (suc i) = cc in
     (omega arith, e ∙ ap f (sym (add-one i)))
 
 pub returns : goal.returns
 unfolding nearest_parts
 returns c =
-    let e : c.before.loop-i.i ≡ 7 = omega arith in
+    let e : c.loop-i.i ≡ 7 = omega arith in
     cc

@@ -2,10 +2,10 @@
 use Rattle.measure.proofs.parts.of_kind.Goals as goal
 
 pub returns-in-UnderDeck : goal.returns-in-UnderDeck
-returns-in-UnderDeck c = rw c.before.in-UnderDeck.is c.of_under_deck.ensures
+returns-in-UnderDeck c = rw c.in-UnderDeck.is c.of_under_deck.ensures
 
 pub returns-in-BetweenDeck : goal.returns-in-BetweenDeck
-returns-in-BetweenDeck c = rw c.before.in-BetweenDeck.is c.by_table.ensures
+returns-in-BetweenDeck c = rw c.in-BetweenDeck.is c.by_table.ensures
 
 pub returns-in-Superstructure : goal.returns-in-Superstructure
-returns-in-Superstructure c = rw c.before.in-Superstructure.is c.of_superstructure.ensures
+returns-in-Superstructure c = rw c.in-Superstructure.is c.of_superstructure.ensures

@@ -11,6 +11,5 @@ nearest_parts-requires c = rw c.by_table.ensures (most (table_even _))
 pub returns : goal.returns
 unfolding superstructure_parts
 returns c =
-    let s = c.before.before in
     c.nearest_parts.ensures
-    ∙ ap (λ (n : ℕ). nearest_parts s.args.tonnage_length n s.args.length) c.before.by_table.ensures
+    ∙ ap (λ (n : ℕ). nearest_parts c.args.tonnage_length n c.args.length) c.by_table.ensures

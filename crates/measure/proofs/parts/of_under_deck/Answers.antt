@@ -5,8 +5,8 @@ use Rattle.measure.proofs.parts.of_under_deck.Goals as goal
 
 pub returns-then-length-tonnage_length : goal.returns-then-length-tonnage_length
 unfolding under_deck_parts
-returns-then-length-tonnage_length c = simp (eq-eqb _ _ c.before.if-length-tonnage_length.true) c.by_table.ensures
+returns-then-length-tonnage_length c = simp (eq-eqb _ _ c.if-length-tonnage_length.true) c.by_table.ensures
 
 pub returns : goal.returns
 unfolding under_deck_parts
-returns c = simp (ne_eqb _ _ c.before.if-length-tonnage_length.false) c.of_step_part.ensures
+returns c = simp (ne_eqb _ _ c.if-length-tonnage_length.false) c.of_step_part.ensures

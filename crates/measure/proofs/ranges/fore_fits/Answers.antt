@@ -7,4 +7,4 @@ use Rattle.measure.proofs.ranges.fore_fits.Goals as goal
 
 pub returns : goal.returns
 unfolding includes
-returns c = sym (simp (le-leb 0 c.before.args.fore.0 zero-le))
+returns c = sym (simp (le-leb 0 c.args.fore.0 zero-le))

@@ -10,4 +10,4 @@ returns-then-x-range c = sym (simp (lt-leb _ _ c.if-x-range.true))
 
 pub returns : goal.returns
 unfolding includes
-returns c = sym (simp (le-leb _ _ c.before.if-x-range.false))
+returns c = sym (simp (le-leb _ _ c.if-x-range.false))

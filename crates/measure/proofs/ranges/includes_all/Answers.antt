@@ -12,21 +12,16 @@ loop-i-init c = (omega arith, refl)
 
 pub returns-then-not-includes : goal.returns-then-not-includes
 returns-then-not-includes c =
-    let l = c.before.before.before.before in
-    let s = l.before.before in
     sym
-    (sym l.loop-i.invariant.1
-    ∙ includes_all_step s.args.range l.loop-i.i s.args.xs.now c.before.before.before.loop-i-test.true
-    ∙ simp (fails c.before.includes.ensures c.if-not-includes.true))
+    (sym c.loop-i.invariant.1
+    ∙ includes_all_step c.args.range c.loop-i.i c.args.xs.now c.loop-i-test.true
+    ∙ simp (fails c.includes.ensures c.if-not-includes.true))
 
 pub loop-i-preserved : goal.loop-i-preserved
 loop-i-preserved c =
-    let l = c.before.before.before.before in
-    let s = l.before.before in
-    let st = includes_all_step s.args.range l.loop-i.i s.args.xs.now c.before.before.before.loop-i-test.true in
-    (omega arith, sym (st ∙ simp (holds c.before.includes.ensures c.if-not-includes.false)) ∙ l.loop-i.invariant.1)
+    let st = includes_all_step c.args.range c.loop-i.i c.args.xs.now c.loop-i-test.true in
+    (omega arith, sym (st ∙ simp (holds c.includes.ensures c.if-not-includes.false)) ∙ c.loop-i.invariant.1)
 
 pub returns : goal.returns
 returns c =
-    let s = c.before.before.before in
-    sym (ap (includes_all s.args.range) (drop_of_length-le s.args.xs.now c.loop-i-test.false)) ∙ c.before.loop-i.invariant.1
+    sym (ap (includes_all c.args.range) (drop_of_length-le c.args.xs.now c.loop-i-test.false)) ∙ c.loop-i.invariant.1

@@ -5,4 +5,4 @@ use Rattle.measure.specs.declared.ranges.Range.{Range}
 use Rattle.measure.proofs.ranges.length_fits.Goals as goal
 
 pub returns : goal.returns
-returns c = c.includes.ensures ∙ ap (λ (r : Range). includes r c.before.before.args.length.0) c.before.lengths.ensures
+returns c = c.includes.ensures ∙ ap (λ (r : Range). includes r c.args.length.0) c.lengths.ensures

@@ -5,4 +5,4 @@ use Rattle.measure.specs.declared.ranges.Range.{Range}
 use Rattle.measure.proofs.ranges.tonnage_length_fits.Goals as goal
 
 pub returns : goal.returns
-returns c = c.includes.ensures ∙ ap (λ (r : Range). includes r c.before.before.args.length.0) c.before.tonnage_lengths.ensures
+returns c = c.includes.ensures ∙ ap (λ (r : Range). includes r c.args.length.0) c.tonnage_lengths.ensures

@@ -8,10 +8,9 @@ use mir.ValLaws.{to_z-of_z}
 use Rattle.measure.proofs.Laws.Rounding.{nearest_within}
 use Rattle.measure.proofs.rounding.rounding.Goals as goal
 
-near : (c : goal.After-nearest) → let x = c.before.args.b * c.nearest.result in let a = c.before.args.a in (x ≤ a + 24) × (a ≤ x + 24)
+near : (c : goal.After-nearest) → let x = c.args.b * c.nearest.result in let a = c.args.a in (x ≤ a + 24) × (a ≤ x + 24)
 near c =
-    let s = c.before in
-    let w = rw (sym c.nearest.ensures) at (nearest_within s.args.a s.args.b s.requires.0) in
+    let w = rw (sym c.nearest.ensures) at (nearest_within c.args.a c.args.b c.requires.0) in
     (omega arith, omega arith)
 
 pub overflow_mul-rounded : goal.overflow_mul-rounded
@@ -24,6 +23,6 @@ difference-requires c =
 
 pub returns : goal.returns
 returns c =
-    let a = c.before.before.args in
+    let a = c.args in
     to_z-of_z w8 _ (record { sfits = c.difference.type_inv }) ∙ c.difference.ensures
-    ∙ ap (λ (r : ℕ). pos (a.b * r) -ℤ pos a.a) c.before.nearest.ensures
+    ∙ ap (λ (r : ℕ). pos (a.b * r) -ℤ pos a.a) c.nearest.ensures

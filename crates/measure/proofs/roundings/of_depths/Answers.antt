@@ -16,24 +16,21 @@ unfolding of_depths
 loop-i-init c = (omega arith, refl)
 
 pub offset_bounds-depths-i : goal.offset_bounds-depths-i
-offset_bounds-depths-i c = omega (arith, c.before.before.before.requires)
+offset_bounds-depths-i c = omega (arith, c.requires)
 
 pub bounds-found-i : goal.bounds-found-i
-bounds-found-i c = omega (arith, c.before.before.before.before.before.requires)
+bounds-found-i c = omega (arith, c.requires)
 
 pub loop-i-preserved : goal.loop-i-preserved
 loop-i-preserved c =
-    let l = c.before.before.before in
-    let s = l.before.before in
-    let i = l.loop-i.i in (
+    let i = c.loop-i.i in (
       omega arith,
-      ap₂ (λ (row : List ℤ) (x : ℤ). set row i x) l.loop-i.invariant.1 (to_z-of_z w8 _ (record { sfits = c.rounding_of_depth.type_inv }) ∙ c.rounding_of_depth.ensures)
-          ∙ depths_more s.args.parts i s.args.depths.now (omega arith) s.requires.2,
+      ap₂ (λ (row : List ℤ) (x : ℤ). set row i x) c.loop-i.invariant.1 (to_z-of_z w8 _ (record { sfits = c.rounding_of_depth.type_inv }) ∙ c.rounding_of_depth.ensures)
+          ∙ depths_more c.args.parts i c.args.depths.now (omega arith) c.requires.2,
     )
 
 pub returns : goal.returns
 returns c =
-    let s = c.before.before.before in
-    let l = c.before.loop-i in
-    let depths = s.args.depths.now in
-    l.invariant.1 ∙ ap (of_depths s.args.parts) (take_all l.i depths c.loop-i-test.false)
+    let l = c.loop-i in
+    let depths = c.args.depths.now in
+    l.invariant.1 ∙ ap (of_depths c.args.parts) (take_all l.i depths c.loop-i-test.false)

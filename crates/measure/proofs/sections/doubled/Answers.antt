@@ -18,20 +18,20 @@ loop-j-init c = (omega arith, refl, ap (between_from c.args.a 0) (sub-zero (c.ar
 
 pub zone_of-at-requires : goal.zone_of-at-requires
 zone_of-at-requires c =
-    let laid = c.before.before.before.requires in
+    let laid = c.requires in
     (laid, omega (arith, most laid.of_tank))
 
 pub bounds-two-j : goal.bounds-two-j
-bounds-two-j c = omega (arith, most c.before.before.before.before.requires.of_tank)
+bounds-two-j c = omega (arith, most c.requires.of_tank)
 
 pub overflow_add-j : goal.overflow_add-j
-overflow_add-j c = omega (arith, most c.before.before.before.before.requires.of_tank)
+overflow_add-j c = omega (arith, most c.requires.of_tank)
 
 pub loop-j-preserved : goal.loop-j-preserved
 loop-j-preserved c =
-    let l = c.before.before.before.loop-j in
-    let a = c.before.before.before.before.args.a in
-    let p = most c.before.before.before.before.requires.of_tank in
+    let l = c.loop-j in
+    let a = c.args.a in
+    let p = most c.requires.of_tank in
     let later = between_from a (l.j + 1) (a.p + 1 - (l.j + 1)) in
     let told = ap (λ (at : Zoned). at.between) c.zone_of-at.ensures.0 in (
       omega arith,
@@ -44,8 +44,8 @@ loop-j-preserved c =
 
 pub returns : goal.returns
 returns c =
-    let l = c.before.before.loop-j in
-    let a = c.before.before.before.args.a in
+    let l = c.loop-j in
+    let a = c.args.a in
     let all : l.j ≡ a.p + 1 = omega arith in
     let z : a.p + 1 - (a.p + 1) ≡ 0 = omega arith in
     rw (all, z, append-nil) at l.invariant.2

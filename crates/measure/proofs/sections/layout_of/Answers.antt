@@ -9,7 +9,7 @@ nearest_parts-p-requires c = rw c.of_under_deck-n.ensures (most (under_deck_even
 pub returns : goal.returns
 unfolding layout_of
 returns c =
-    let n = c.before.of_under_deck-n.ensures in (
+    let n = c.of_under_deck-n.ensures in (
       rw (c.nearest_parts-p.ensures, n),
       record { of_u = rw n (most (under_deck_even _ _)); of_tank = rw c.nearest_parts-p.ensures (nearest_even _ _ _) },
     )

@@ -10,6 +10,7 @@ use Rattle.measure.specs.Sections.{between_zones, zones_from, section_zones}
 use Rattle.measure.specs.declared.sections.Zoned.{Zoned}
 use Rattle.measure.proofs.Laws.Parts.{most}
 use Rattle.measure.proofs.Laws.Sections.{zone_here, zone_later}
+use Rattle.measure.proofs.sections.section_zone.Goals.{After-one_if}
 use Rattle.measure.proofs.sections.section_zone.Goals as goal
 
 pub loop-j-init : goal.loop-j-init
@@ -18,53 +19,49 @@ loop-j-init c = (omega arith, omega arith, omega arith, rw (sub-zero (c.args.a.p
 
 pub zone_of-at-requires : goal.zone_of-at-requires
 zone_of-at-requires c =
-    let laid = c.before.before.before.requires in
+    let laid = c.requires in
     (laid, omega (arith, most laid.of_tank))
 
 -- the station's sections beyond the first, as the definition has them
-second : (c : goal.After-one_if) → (let l = c.before.before.before.before in c.one_if.result ≡ cond (between_zones l.before.args.a l.loop-j.j) 1 0)
-second c = c.one_if.ensures.0 ∙ ap (λ (at : Zoned). cond at.between 1 0) c.before.zone_of-at.ensures.0
+second : (c : After-one_if) → (c.one_if.result ≡ cond (between_zones c.args.a c.loop-j.j) 1 0)
+second c = c.one_if.ensures.0 ∙ ap (λ (at : Zoned). cond at.between 1 0) c.zone_of-at.ensures.0
 
 pub overflow_add-next-in-loop-j : goal.overflow_add-next-in-loop-j
-overflow_add-next-in-loop-j c = omega (arith, most c.before.before.before.before.before.requires.of_tank)
+overflow_add-next-in-loop-j c = omega (arith, most c.requires.of_tank)
 
 pub overflow_add-result : goal.overflow_add-result
-overflow_add-result c = omega (arith, c.before.before.before.zone_of-at.ensures.1)
+overflow_add-result c = omega (arith, c.zone_of-at.ensures.1)
 
 pub returns-then-i-next : goal.returns-then-i-next
 returns-then-i-next c =
-    let one = c.before.before in
-    let l = one.before.before.before.before in
-    let a = l.before.args in
-    let more = second one in
+    let a = c.args in
+    let more = second (goal.at.returns-then-i-next c).After-one_if in
     sym
-    (l.loop-j.invariant.3
-    ∙ zone_here a.a l.loop-j.j (a.a.p + 1) (a.i - l.loop-j.first) (omega arith) (omega arith)
-    ∙ ap (λ (at : Zoned). at.zone + (a.i - l.loop-j.first)) (sym one.before.zone_of-at.ensures.0))
+    (c.loop-j.invariant.3
+    ∙ zone_here a.a c.loop-j.j (a.a.p + 1) (a.i - c.loop-j.first) (omega arith) (omega arith)
+    ∙ ap (λ (at : Zoned). at.zone + (a.i - c.loop-j.first)) (sym c.zone_of-at.ensures.0))
 
 pub overflow_add-j : goal.overflow_add-j
-overflow_add-j c = omega (arith, most c.before.before.before.before.before.before.requires.of_tank)
+overflow_add-j c = omega (arith, most c.requires.of_tank)
 
 pub loop-j-preserved : goal.loop-j-preserved
 loop-j-preserved c =
-    let one = c.before in
-    let l = one.before.before.before.before in
-    let a = l.before.args in
-    let more = second one in
-    let least = one.one_if.ensures.1 in
-    let at : a.i - l.loop-j.first - (1 + cond (between_zones a.a l.loop-j.j) 1 0) ≡ a.i - (l.loop-j.first + (1 + one.one_if.result)) = omega arith in (
+    let a = c.args in
+    let more = second (goal.at.loop-j-preserved c).After-one_if in
+    let least = c.one_if.ensures.1 in
+    let at : a.i - c.loop-j.first - (1 + cond (between_zones a.a c.loop-j.j) 1 0) ≡ a.i - (c.loop-j.first + (1 + c.one_if.result)) = omega arith in (
       omega arith,
       omega arith,
       omega arith,
-      l.loop-j.invariant.3
-          ∙ zone_later a.a l.loop-j.j (a.a.p + 1) (a.i - l.loop-j.first) (omega arith) (omega arith)
-          ∙ ap (λ (n : ℕ). get_or (zones_from a.a (l.loop-j.j + 1) (a.a.p + 1 - (l.loop-j.j + 1))) n 0) at,
+      c.loop-j.invariant.3
+          ∙ zone_later a.a c.loop-j.j (a.a.p + 1) (a.i - c.loop-j.first) (omega arith) (omega arith)
+          ∙ ap (λ (n : ℕ). get_or (zones_from a.a (c.loop-j.j + 1) (a.a.p + 1 - (c.loop-j.j + 1))) n 0) at,
     )
 
 pub returns : goal.returns
 returns c =
-    let l = c.before.before.loop-j in
-    let a = c.before.before.before.args in
+    let l = c.loop-j in
+    let a = c.args in
     let all : l.j ≡ a.a.p + 1 = omega arith in
     let z : a.a.p + 1 - (a.a.p + 1) ≡ 0 = omega arith in
     sym (rw (all, z) at l.invariant.3)

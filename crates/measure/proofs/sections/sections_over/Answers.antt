@@ -14,17 +14,16 @@ loop-j-init c = (omega arith, zero-add _, omega arith)
 
 pub loop-j-preserved : goal.loop-j-preserved
 loop-j-preserved c =
-    let l = c.before.before in
-    let a = l.before.args in
+    let a = c.args in
     let full : length a.two ≡ 17 = search rules in
-    let st = sections_step a.two a.stations l.loop-j.j (omega arith) c.before.loop-j-test.true in
+    let st = sections_step a.two a.stations c.loop-j.j (omega arith) c.loop-j-test.true in
     (omega arith, omega arith, omega arith)
 
 pub returns : goal.returns
 returns c =
-    let a = c.before.before.args in
+    let a = c.args in
     let full : length a.two ≡ 17 = search rules in
-    let all : c.before.loop-j.j ≡ a.stations = omega arith in
-    let counted = rw all at c.before.loop-j.invariant.1 in
+    let all : c.loop-j.j ≡ a.stations = omega arith in
+    let counted = rw all at c.loop-j.invariant.1 in
     let none = ap sections_over (front_end a.two a.stations (omega arith)) in
     omega arith

@@ -9,49 +9,46 @@ use Rattle.measure.specs.Sections.{station_at, zone_of_station, between_zones}
 use Rattle.measure.proofs.Laws.Products.{at_most}
 use Rattle.measure.proofs.Laws.Multipliers.{multiplier_le}
 use Rattle.measure.proofs.Laws.Zones.{end_next, ends_next, met_next}
+use Rattle.measure.proofs.sections.zone_of.Goals.{After-multiplier}
 use Rattle.measure.proofs.sections.zone_of.Goals as goal
 
 pub loop-k-init : goal.loop-k-init
 loop-k-init c = (omega arith, omega arith, omega arith, refl, omega arith, refl)
 
 -- a turn's term is at most four thirds
-term-le : (c : goal.After-multiplier) → c.multiplier.result * c.before.before.before.before.third_of_interval-third.result ≤ 4 * 68719476736
-term-le c =
-    let l = c.before.before.before in
-    let h = multiplier_le l.before.before.before.args.a.n (l.loop-k.k + 1) in
+term_le : (c : After-multiplier) → c.multiplier.result * c.third_of_interval-third.result ≤ 4 * 68719476736
+term_le c =
+    let h = multiplier_le c.args.a.n (c.loop-k.k + 1) in
     at_most 4 68719476736 (omega (arith, c.multiplier.ensures)) (omega arith)
 
 pub overflow_mul-end : goal.overflow_mul-end
-overflow_mul-end c = omega (arith, term-le c)
+overflow_mul-end c = omega (arith, term_le (goal.at.overflow_mul-end c).After-multiplier)
 
 pub overflow_add-end : goal.overflow_add-end
-overflow_add-end c = omega (arith, term-le c)
+overflow_add-end c = omega (arith, term_le (goal.at.overflow_add-end c).After-multiplier)
 
 pub loop-k-preserved : goal.loop-k-preserved
 loop-k-preserved c =
-    let m = c.before.before in
-    let l = m.before.before.before in
-    let third = l.before.third_of_interval-third in
-    let point = l.before.before.station_at-point in
-    let a = l.before.before.before.args in
-    let k = l.loop-k.k in
-    let le = term-le m in
-    let ended = ap₂ ◌+◌ l.loop-k.invariant.1 (ap (λ (x : ℕ). x * third.result) m.multiplier.ensures) ∙ end_next a.a.n k third.result in
+    let third = c.third_of_interval-third in
+    let point = c.station_at-point in
+    let a = c.args in
+    let k = c.loop-k.k in
+    let le = term_le (goal.at.loop-k-preserved c).After-multiplier in
+    let ended = ap₂ ◌+◌ c.loop-k.invariant.1 (ap (λ (x : ℕ). x * third.result) c.multiplier.ensures) ∙ end_next a.a.n k third.result in
     let passed = ends_next a.a.n a.a.u (station_at a.a a.j) k third.ensures.0 point.ensures ended in (
       omega arith,
       ended,
       omega arith,
-      omega (arith, c.before.one_if-zone.ensures.0),
-      omega (arith, c.before.one_if-zone.ensures.1),
+      omega (arith, c.one_if-zone.ensures.0),
+      omega (arith, c.one_if-zone.ensures.1),
       c.either-between.ensures
-          ∙ ap (λ (met : Bool). eqb point.result (l.loop-k.end + m.multiplier.result * third.result) || met) l.loop-k.invariant.5
+          ∙ ap (λ (met : Bool). eqb point.result (c.loop-k.end + c.multiplier.result * third.result) || met) c.loop-k.invariant.5
           ∙ met_next a.a.n a.a.u (station_at a.a a.j) k third.ensures.0 point.ensures ended,
     )
 
 pub returns : goal.returns
 unfolding zone_of_station zone_of between_zones between
 returns c =
-    let l = c.before.before in
-    let a = l.before.before.before.args in
-    let all : l.loop-k.k ≡ a.a.n = omega arith in
-    (rw (l.loop-k.invariant.3, l.loop-k.invariant.5, all), omega (arith, l.before.before.before.requires.0.of_u))
+    let a = c.args in
+    let all : c.loop-k.k ≡ a.a.n = omega arith in
+    (rw (c.loop-k.invariant.3, c.loop-k.invariant.5, all), omega (arith, c.requires.0.of_u))

@@ -12,15 +12,15 @@ use Rattle.measure.proofs.tanks.all_sections.Goals as goal
 use Rattle.measure.proofs.tanks.all_sections.Goals.{After-sections_over}
 
 pub overflow_add-a : goal.overflow_add-a
-overflow_add-a c = omega (arith, most c.before.before.before.requires.0.laid.of_tank)
+overflow_add-a c = omega (arith, most c.requires.0.laid.of_tank)
 
 pub sections_over-requires : goal.sections_over-requires
-sections_over-requires c = omega (arith, most c.before.before.before.requires.0.laid.of_tank)
+sections_over-requires c = omega (arith, most c.requires.0.laid.of_tank)
 
 -- as many as the definition asks
-asked : (c : After-sections_over) → c.sections_over.result ≡ sections c.before.before.before.before.args.a
+asked : (c : After-sections_over) → c.sections_over.result ≡ sections c.args.a
 unfolding sections
-asked c = c.sections_over.ensures ∙ ap sections_over c.before.before.before.before.requires.0.first_are
+asked c = c.sections_over.ensures ∙ ap sections_over c.requires.0.first_are
 
 pub returns-then-depths-sections_over : goal.returns-then-depths-sections_over
 unfolding all_sections
@@ -28,9 +28,8 @@ returns-then-depths-sections_over c = sym (simp (ne_eqb _ _ (rw (asked (goal.at.
 
 pub overflow_mul-result : goal.overflow_mul-result
 overflow_mul-result c =
-    let s = c.before.before.before.before.before in
-    let p = most s.requires.0.laid.of_tank in
-    let n = tank_sections_most s.args.a in
+    let p = most c.requires.0.laid.of_tank in
+    let n = tank_sections_most c.args.a in
     record { fits = below 34 17 (2 ^ 64) tt (omega (arith, asked (goal.at.overflow_mul-result c).After-sections_over)) (omega arith) }
 
 pub returns : goal.returns

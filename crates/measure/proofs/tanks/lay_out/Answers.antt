@@ -22,19 +22,17 @@ module _ (t u l f : Hundredths) {n : ℕ} (number : n ≡ lay_out_number t u l f
 
 pub returns-then-number-ne0 : goal.returns-then-number-ne0
 returns-then-number-ne0 c =
-    let a = c.before.before.args in
-    refused a.tonnage_length a.under_deck a.length a.fore c.before.lay_out_number-number.ensures c.if-number-ne0.true
+    let a = c.args in
+    refused a.tonnage_length a.under_deck a.length a.fore c.lay_out_number-number.ensures c.if-number-ne0.true
 
 pub overflow_add-a : goal.overflow_add-a
-overflow_add-a c = omega (arith, most c.before.before.layout_of-a.ensures.1.of_tank)
+overflow_add-a c = omega (arith, most c.layout_of-a.ensures.1.of_tank)
 
 pub sections_over-requires : goal.sections_over-requires
-sections_over-requires c = omega (arith, most c.before.before.layout_of-a.ensures.1.of_tank)
+sections_over-requires c = omega (arith, most c.layout_of-a.ensures.1.of_tank)
 
 pub returns : goal.returns
 unfolding sections
 returns c =
-    let d = c.before.before in
-    let n = d.before.before in
-    let a = n.before.before.args in
-    accepted a.tonnage_length a.under_deck a.length a.fore n.before.lay_out_number-number.ensures n.if-number-ne0.false d.before.layout_of-a.ensures.0 (c.sections_over.ensures ∙ ap sections_over d.doubled.ensures)
+    let a = c.args in
+    accepted a.tonnage_length a.under_deck a.length a.fore c.lay_out_number-number.ensures c.if-number-ne0.false c.layout_of-a.ensures.0 (c.sections_over.ensures ∙ ap sections_over c.doubled.ensures)

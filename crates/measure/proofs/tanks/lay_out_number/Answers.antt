@@ -23,17 +23,15 @@ module _ (t u l f : Hundredths) {fit : Bool} (fitted : fit ≡ lengths_fit t u l
 
 pub returns-then-not-lengths_fit : goal.returns-then-not-lengths_fit
 returns-then-not-lengths_fit c =
-    let a = c.before.before.args in
-    with_2 a.tonnage_length a.under_deck a.length a.fore c.before.lengths_fit.ensures c.if-not-lengths_fit.true
+    let a = c.args in
+    with_2 a.tonnage_length a.under_deck a.length a.fore c.lengths_fit.ensures c.if-not-lengths_fit.true
 
 pub returns-then-passes_end : goal.returns-then-passes_end
 returns-then-passes_end c =
-    let l = c.before.before in
-    let a = l.before.before.args in
-    with_9 a.tonnage_length a.under_deck a.length a.fore l.before.lengths_fit.ensures l.if-not-lengths_fit.false c.before.passes_end.ensures c.if-passes_end.true
+    let a = c.args in
+    with_9 a.tonnage_length a.under_deck a.length a.fore c.lengths_fit.ensures c.if-not-lengths_fit.false c.passes_end.ensures c.if-passes_end.true
 
 pub returns : goal.returns
 returns c =
-    let l = c.before.before in
-    let a = l.before.before.args in
-    accepted a.tonnage_length a.under_deck a.length a.fore l.before.lengths_fit.ensures l.if-not-lengths_fit.false c.before.passes_end.ensures c.if-passes_end.false
+    let a = c.args in
+    accepted a.tonnage_length a.under_deck a.length a.fore c.lengths_fit.ensures c.if-not-lengths_fit.false c.passes_end.ensures c.if-passes_end.false

@@ -46,64 +46,45 @@ module _ (t u : Hundredths) (m : ℕ) (l f : Hundredths) (ds bs : List ℕ) {ran
         accepted none-missing e =
             simp (holds ranged in_range, sym ended ∙ inside, holds measured has_m_lem, holds (rw laid at counted) none-missing, rw laid at e)
 
-told : (c : After-doubled-two) → Doubled c.before.layout_of-a.result c.doubled-two.result
-told c = record { laid = c.before.layout_of-a.ensures.1; first_are = c.doubled-two.ensures }
+told : (c : After-doubled-two) → Doubled c.layout_of-a.result c.doubled-two.result
+told c = record { laid = c.layout_of-a.ensures.1; first_are = c.doubled-two.ensures }
 
 pub returns-then-not-in_range : goal.returns-then-not-in_range
 returns-then-not-in_range c =
-    let a = c.before.before.before.before.before.args in
+    let a = c.args in
     c.refused.ensures
-    ∙ with_2 a.tonnage_length a.under_deck a.m a.length a.fore a.depths.now a.breadths.now c.before.before.in_range.ensures c.before.if-not-in_range.true
+    ∙ with_2 a.tonnage_length a.under_deck a.m a.length a.fore a.depths.now a.breadths.now c.in_range.ensures c.if-not-in_range.true
 
 pub returns-then-passes_end : goal.returns-then-passes_end
 returns-then-passes_end c =
-    let r = c.before.before.before in
-    let a = r.before.before.before.before.args in
+    let a = c.args in
     c.refused-then-passes_end.ensures
-    ∙ with_9 a.tonnage_length a.under_deck a.m a.length a.fore a.depths.now a.breadths.now r.before.in_range.ensures r.if-not-in_range.false c.before.before.passes_end.ensures c.before.if-passes_end.true
+    ∙ with_9 a.tonnage_length a.under_deck a.m a.length a.fore a.depths.now a.breadths.now c.in_range.ensures c.if-not-in_range.false c.passes_end.ensures c.if-passes_end.true
 
 pub returns-then-not-has_m : goal.returns-then-not-has_m
 returns-then-not-has_m c =
-    let i = c.before.before.before in
-    let r = i.before.before in
-    let a = r.before.before.before.before.args in
+    let a = c.args in
     c.refused-then-not-has_m.ensures
-    ∙ with_29 a.tonnage_length a.under_deck a.m a.length a.fore a.depths.now a.breadths.now r.before.in_range.ensures r.if-not-in_range.false i.before.passes_end.ensures i.if-passes_end.false c.before.before.has_m.ensures c.before.if-not-has_m.true
+    ∙ with_29 a.tonnage_length a.under_deck a.m a.length a.fore a.depths.now a.breadths.now c.in_range.ensures c.if-not-in_range.false c.passes_end.ensures c.if-passes_end.false c.has_m.ensures c.if-not-has_m.true
 
 pub all_sections-requires : goal.all_sections-requires
 all_sections-requires c =
-    let h = c.before.before in
-    (told c, most (has_m_even h.before.before.before.before.before.before.before.before.args.m (holds h.before.has_m.ensures h.if-not-has_m.false)))
+    (told c, most (has_m_even c.args.m (holds c.has_m.ensures c.if-not-has_m.false)))
 
 pub returns-then-not-all_sections : goal.returns-then-not-all_sections
 returns-then-not-all_sections c =
-    let s = c.before.before in
-    let d = s.before.before in
-    let h = d.before in
-    let i = h.before.before in
-    let r = i.before.before in
-    let a = r.before.before.before.before.args in
+    let a = c.args in
     c.refused-then-not-all_sections.ensures
-    ∙ with_3 a.tonnage_length a.under_deck a.m a.length a.fore a.depths.now a.breadths.now r.before.in_range.ensures r.if-not-in_range.false i.before.passes_end.ensures i.if-passes_end.false h.before.has_m.ensures h.if-not-has_m.false d.layout_of-a.ensures.0 s.all_sections.ensures c.before.if-not-all_sections.true
+    ∙ with_3 a.tonnage_length a.under_deck a.m a.length a.fore a.depths.now a.breadths.now c.in_range.ensures c.if-not-in_range.false c.passes_end.ensures c.if-passes_end.false c.has_m.ensures c.if-not-has_m.false c.layout_of-a.ensures.0 c.all_sections.ensures c.if-not-all_sections.true
 
 pub tonnage-requires : goal.tonnage-requires
 tonnage-requires c =
-    let s = c.before in
-    let d = s.before.before in
-    let h = d.before in
-    let i = h.before.before in
-    let r = i.before.before in
-    let a = r.before.before.before.before.args in (
+    let a = c.args in (
       told (goal.at.tonnage-requires c).After-doubled-two,
-      handed a.tonnage_length a.under_deck a.m a.length a.fore a.depths.now a.breadths.now r.before.in_range.ensures r.if-not-in_range.false i.before.passes_end.ensures i.if-passes_end.false h.before.has_m.ensures h.if-not-has_m.false d.layout_of-a.ensures.0 s.all_sections.ensures c.if-not-all_sections.false d.layout_of-a.ensures.1,
+      handed a.tonnage_length a.under_deck a.m a.length a.fore a.depths.now a.breadths.now c.in_range.ensures c.if-not-in_range.false c.passes_end.ensures c.if-passes_end.false c.has_m.ensures c.if-not-has_m.false c.layout_of-a.ensures.0 c.all_sections.ensures c.if-not-all_sections.false c.layout_of-a.ensures.1,
     )
 
 pub returns : goal.returns
 returns c =
-    let s = c.before.before in
-    let d = s.before.before in
-    let h = d.before in
-    let i = h.before.before in
-    let r = i.before.before in
-    let a = r.before.before.before.before.args in
-    accepted a.tonnage_length a.under_deck a.m a.length a.fore a.depths.now a.breadths.now r.before.in_range.ensures r.if-not-in_range.false i.before.passes_end.ensures i.if-passes_end.false h.before.has_m.ensures h.if-not-has_m.false d.layout_of-a.ensures.0 s.all_sections.ensures c.before.if-not-all_sections.false c.tonnage.ensures
+    let a = c.args in
+    accepted a.tonnage_length a.under_deck a.m a.length a.fore a.depths.now a.breadths.now c.in_range.ensures c.if-not-in_range.false c.passes_end.ensures c.if-passes_end.false c.has_m.ensures c.if-not-has_m.false c.layout_of-a.ensures.0 c.all_sections.ensures c.if-not-all_sections.false c.tonnage.ensures

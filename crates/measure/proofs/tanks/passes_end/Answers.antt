@@ -4,4 +4,4 @@ use Rattle.measure.proofs.tanks.passes_end.Goals as goal
 
 pub returns : goal.returns
 unfolding passes_end
-returns c = rw (c.before.before.wide.ensures.0, c.before.wide-2.ensures.0, c.wide-3.ensures.0)
+returns c = rw (c.wide.ensures.0, c.wide-2.ensures.0, c.wide-3.ensures.0)

@@ -20,11 +20,10 @@ module _ (t u l f : Hundredths) (i : ℕ) {n : ℕ} (number : n ≡ lay_out_numb
 
 pub returns-then-lay_out_number-ne0 : goal.returns-then-lay_out_number-ne0
 returns-then-lay_out_number-ne0 c =
-    let a = c.before.before.args in
-    refused a.tonnage_length a.under_deck a.length a.fore a.i c.before.lay_out_number.ensures c.if-lay_out_number-ne0.true
+    let a = c.args in
+    refused a.tonnage_length a.under_deck a.length a.fore a.i c.lay_out_number.ensures c.if-lay_out_number-ne0.true
 
 pub returns : goal.returns
 returns c =
-    let n = c.before.before in
-    let a = n.before.before.args in
-    accepted a.tonnage_length a.under_deck a.length a.fore a.i n.before.lay_out_number.ensures n.if-lay_out_number-ne0.false c.before.layout_of.ensures.0 c.section_zone.ensures
+    let a = c.args in
+    accepted a.tonnage_length a.under_deck a.length a.fore a.i c.lay_out_number.ensures c.if-lay_out_number-ne0.false c.layout_of.ensures.0 c.section_zone.ensures

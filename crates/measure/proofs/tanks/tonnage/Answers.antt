@@ -14,27 +14,25 @@ use Rattle.measure.proofs.tanks.tonnage.Goals as goal
 use Rattle.measure.proofs.tanks.tonnage.Goals.{After-areas-1}
 
 pub overflow_add-stations : goal.overflow_add-stations
-overflow_add-stations c = omega (arith, most c.before.before.before.requires.0.laid.of_tank)
+overflow_add-stations c = omega (arith, most c.requires.0.laid.of_tank)
 
 pub section_areas-requires : goal.section_areas-requires
-section_areas-requires c = c.before.before.before.requires.1.given
+section_areas-requires c = c.requires.1.given
 
 pub taken-areas-requires : goal.taken-areas-requires
-taken-areas-requires c = omega (arith, most c.before.before.before.before.requires.0.laid.of_tank)
+taken-areas-requires c = omega (arith, most c.requires.0.laid.of_tank)
 
 pub slice_bounds-areas-end : goal.slice_bounds-areas-end
-slice_bounds-areas-end c = omega (arith, most c.before.before.before.before.before.requires.0.laid.of_tank)
+slice_bounds-areas-end c = omega (arith, most c.requires.0.laid.of_tank)
 
-found : (c : After-areas-1) → (let a = c.before.before.before.before.before.before.args in take (a.a.p + 1) c.before.taken-areas.result ≡ taken (doubled a.a) (areas a.m a.depths.now a.breadths.now))
+found : (c : After-areas-1) → (let a = c.args in take (a.a.p + 1) c.taken-areas.result ≡ taken (doubled a.a) (areas a.m a.depths.now a.breadths.now))
 found c =
-    let s = c.before.before.before.before.before.before in
-    let a = s.args in
-    areas_taken a.a a.m a.depths.now a.breadths.now s.requires.1 a.two c.before.before.section_areas.result c.before.taken-areas.result s.requires.0 c.before.before.section_areas.ensures c.before.taken-areas.ensures
+    let a = c.args in
+    areas_taken a.a a.m a.depths.now a.breadths.now c.requires.1 a.two c.section_areas.result c.taken-areas.result c.requires.0 c.section_areas.ensures c.taken-areas.ensures
 
-handed : (c : After-areas-1) → (let a = c.before.before.before.before.before.before.args in AreasHanded a.a.l a.a.p (take (a.a.p + 1) c.before.taken-areas.result))
+handed : (c : After-areas-1) → (let a = c.args in AreasHanded a.a.l a.a.p (take (a.a.p + 1) c.taken-areas.result))
 handed c =
-    let s = c.before.before.before.before.before.before in
-    rw (found c) (tank_areas s.args.a s.args.m s.args.depths.now s.args.breadths.now s.requires.1 s.requires.0.laid)
+    rw (found c) (tank_areas c.args.a c.args.m c.args.depths.now c.args.breadths.now c.requires.1 c.requires.0.laid)
 
 pub slice_bounds-tons_over-end : goal.slice_bounds-tons_over-end
 slice_bounds-tons_over-end c = sym (handed c).stations
@@ -45,5 +43,5 @@ tons_over-requires c = handed c
 pub returns : goal.returns
 unfolding tank_volume
 returns c =
-    let a = c.before.before.before.before.before.before.before.args in
+    let a = c.args in
     c.tons_over.ensures ∙ ap (λ (l : List ℕ). tons (volume_over a.a.l a.a.p l)) (found (goal.at.returns c).After-areas-1)

@@ -12,6 +12,7 @@ use Rattle.measure.specs.declared.units.Thousandths.{Thousandths}
 use Rattle.measure.specs.declared.kinds.Kind.{Kind}
 use Rattle.measure.proofs.Laws.Parts.{parts_most}
 use native.Mathlib.Omega.{arith}
+use Rattle.measure.proofs.thirds.divided.Goals.{}
 use Rattle.measure.proofs.thirds.divided.Goals as goal
 
 -- the answer by the number of parts
@@ -27,21 +28,21 @@ module _ (k : Kind) (t l : Hundredths) {n : ℕ} (parts : n ≡ parts_of k t l) 
 
 pub returns-then-parts-eq0 : goal.returns-then-parts-eq0
 returns-then-parts-eq0 c =
-    let a = c.before.before.args in
-    whole a.kind a.tonnage_length a.length c.before.of_kind-parts.ensures c.if-parts-eq0.true
+    let a = c.args in
+    whole a.kind a.tonnage_length a.length c.of_kind-parts.ensures c.if-parts-eq0.true
 
 pub third_of_length-third-requires : goal.third_of_length-third-requires
 third_of_length-third-requires c =
-    let s = c.before.before in
-    let n = parts_most s.args.kind s.args.tonnage_length s.args.length in
+    let n = parts_most c.args.kind c.args.tonnage_length c.args.length in
     (omega arith, omega arith)
 
 pub rounding_of_length-rounding-requires : goal.rounding_of_length-rounding-requires
-rounding_of_length-rounding-requires c = third_of_length-third-requires c.before
+rounding_of_length-rounding-requires c =
+    let n = parts_most c.args.kind c.args.tonnage_length c.args.length in
+    (omega arith, omega arith)
 
 pub returns : goal.returns
 returns c =
-    let f = c.before.before in
-    let a = f.before.before.args in
-    in_parts a.kind a.tonnage_length a.length f.before.of_kind-parts.ensures f.if-parts-eq0.false c.before.third_of_length-third.ensures
+    let a = c.args in
+    in_parts a.kind a.tonnage_length a.length c.of_kind-parts.ensures c.if-parts-eq0.false c.third_of_length-third.ensures
     (to_z-of_z w8 _ (record { sfits = c.rounding_of_length-rounding.type_inv }) ∙ c.rounding_of_length-rounding.ensures)

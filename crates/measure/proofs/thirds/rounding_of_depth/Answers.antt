@@ -11,6 +11,6 @@ use Rattle.measure.proofs.thirds.rounding_of_depth.Goals as goal
 pub returns : goal.returns
 unfolding rounding_of_depth third_of_depth
 returns c =
-    let n = 3 * c.before.before.args.parts in
+    let n = 3 * c.args.parts in
     to_z-of_z w8 _ (record { sfits = c.rounding.type_inv }) ∙ c.rounding.ensures
-    ∙ ap (λ (d : ℕ). pos (n * nearest d n) -ℤ pos d) c.before.wide.ensures.0
+    ∙ ap (λ (d : ℕ). pos (n * nearest d n) -ℤ pos d) c.wide.ensures.0

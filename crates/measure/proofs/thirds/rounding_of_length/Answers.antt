@@ -7,4 +7,4 @@ use Rattle.measure.proofs.thirds.rounding_of_length.Goals as goal
 
 pub returns : goal.returns
 unfolding rounding_of_length third_of_length
-returns c = to_z-of_z w8 _ (record { sfits = c.rounding.type_inv }) ∙ (rw c.before.wide.ensures.0 at c.rounding.ensures)
+returns c = to_z-of_z w8 _ (record { sfits = c.rounding.type_inv }) ∙ (rw c.wide.ensures.0 at c.rounding.ensures)

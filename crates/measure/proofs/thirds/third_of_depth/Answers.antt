@@ -7,8 +7,7 @@ use Rattle.measure.proofs.thirds.third_of_depth.Goals as goal
 
 pub overflow_cast-result : goal.overflow_cast-result
 overflow_cast-result c =
-    let s = c.before.before in
-    omega (arith, nearest_le c.before.wide.result (3 * s.args.parts) (omega arith))
+    omega (arith, nearest_le c.wide.result (3 * c.args.parts) (omega arith))
 
 pub returns : goal.returns
 unfolding third_of_depth

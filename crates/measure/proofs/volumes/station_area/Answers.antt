@@ -10,28 +10,27 @@ use Rattle.measure.proofs.volumes.station_area.Goals as goal
 
 pub third_of_depth-third-requires : goal.third_of_depth-third-requires
 third_of_depth-third-requires c =
-    let lo = least c.before.requires.parts in
-    let hi = most c.before.requires.parts in
+    let lo = least c.requires.parts in
+    let hi = most c.requires.parts in
     (omega arith, omega arith)
 
 pub weighted_sum-requires : goal.weighted_sum-requires
 weighted_sum-requires c =
-    let s = c.before.before in
-    let hi = most s.requires.parts in
-    (hi, omega (arith, s.requires.count))
+    let hi = most c.requires.parts in
+    (hi, omega (arith, c.requires.count))
 
-product : (c : goal.After-wide) → (let s = c.before.before.before.before in c.before.weighted_sum.result * c.wide.result ≡ station_area s.args.parts s.args.depth s.args.breadths.now)
+product : (c : goal.After-wide) → (c.weighted_sum.result * c.wide.result ≡ station_area c.args.parts c.args.depth c.args.breadths.now)
 unfolding station_area
-product c = ap₂ ◌*◌ c.before.weighted_sum.ensures (c.wide.ensures.0 ∙ ap (λ d. d.0) c.before.before.third_of_depth-third.ensures)
+product c = ap₂ ◌*◌ c.weighted_sum.ensures (c.wide.ensures.0 ∙ ap (λ d. d.0) c.third_of_depth-third.ensures)
 
-area-le : (c : goal.After-wide) → c.before.weighted_sum.result * c.wide.result ≤ most_area
-area-le c = omega (arith, product c, station_le c.before.before.before.before.requires)
+area_le : (c : goal.After-wide) → c.weighted_sum.result * c.wide.result ≤ most_area
+area_le c = omega (arith, product c, station_le c.requires)
 
 pub overflow_mul-result : goal.overflow_mul-result
-overflow_mul-result c = omega (arith, area-le c)
+overflow_mul-result c = omega (arith, area_le c)
 
 pub overflow_cast-result : goal.overflow_cast-result
-overflow_cast-result c = omega (arith, area-le c)
+overflow_cast-result c = omega (arith, area_le c)
 
 pub returns : goal.returns
 returns c = product c

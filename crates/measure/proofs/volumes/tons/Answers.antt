@@ -4,4 +4,4 @@ use native.Mathlib.Omega.{arith}
 use Rattle.measure.proofs.volumes.tons.Goals as goal
 
 pub overflow_cast-result : goal.overflow_cast-result
-overflow_cast-result c = omega (arith, nearest_cap 100000000 c.before.args.volume c.before.args.per c.before.requires.0 c.before.requires.1)
+overflow_cast-result c = omega (arith, nearest_cap 100000000 c.args.volume c.args.per c.requires.0 c.requires.1)

@@ -14,27 +14,27 @@ use Rattle.measure.proofs.volumes.tons_over.Goals.{After-struct_known-1}
 
 pub third_of_length-third-requires : goal.third_of_length-third-requires
 third_of_length-third-requires c =
-    let p = c.before.requires.parts in
+    let p = c.requires.parts in
     let lo = least p in
     (omega arith, most p)
 
 pub weighted_sum-requires : goal.weighted_sum-requires
 weighted_sum-requires c =
-    let g = c.before.before.requires in
+    let g = c.requires in
     let hi = most g.parts in
     (hi, omega (arith, g.stations))
 
-volume : (c : After-struct_known-1) → (let s = c.before.before.before.before in c.before.weighted_sum.result * c.before.before.third_of_length-third.result.0 ≡ weighted s.args.n s.args.areas.now * (third_of_length s.args.length s.args.n).0)
-volume c = ap₂ ◌*◌ c.before.weighted_sum.ensures (ap (λ t. t.0) c.before.before.third_of_length-third.ensures)
+volume : (c : After-struct_known-1) → (c.weighted_sum.result * c.third_of_length-third.result.0 ≡ weighted c.args.n c.args.areas.now * (third_of_length c.args.length c.args.n).0)
+volume c = ap₂ ◌*◌ c.weighted_sum.ensures (ap (λ t. t.0) c.third_of_length-third.ensures)
 
-volume-le : (c : After-struct_known-1) → c.before.weighted_sum.result * c.before.before.third_of_length-third.result.0 ≤ most_tons * 10000000
-volume-le c = omega (arith, volume c, volume_over_le c.before.before.before.before.requires)
+volume_le : (c : After-struct_known-1) → c.weighted_sum.result * c.third_of_length-third.result.0 ≤ most_tons * 10000000
+volume_le c = omega (arith, volume c, volume_over_le c.requires)
 
 pub overflow_mul-volume : goal.overflow_mul-volume
-overflow_mul-volume c = omega (arith, volume-le c)
+overflow_mul-volume c = omega (arith, volume_le c)
 
 pub tons-requires : goal.tons-requires
-tons-requires c = (omega arith, volume-le c)
+tons-requires c = (omega arith, volume_le c)
 
 pub returns : goal.returns
 unfolding tons

@@ -9,11 +9,11 @@ use Rattle.measure.proofs.Laws.Volumes.{under_deck_areas}
 use Rattle.measure.proofs.volumes.under_deck_tons.Goals as goal
 use Rattle.measure.proofs.volumes.under_deck_tons.Goals.{After-areas-1}
 
-found : (c : After-areas-1) → (let s = c.before.before.before.before in take (s.args.n + 1) c.before.section_areas-areas.result ≡ areas s.args.m s.args.depths.now s.args.breadths.now)
-found c = ap (λ (k : ℕ). take k c.before.section_areas-areas.result) (sym c.before.before.before.before.requires.stations) ∙ c.before.section_areas-areas.ensures
+found : (c : After-areas-1) → (take (c.args.n + 1) c.section_areas-areas.result ≡ areas c.args.m c.args.depths.now c.args.breadths.now)
+found c = ap (λ (k : ℕ). take k c.section_areas-areas.result) (sym c.requires.stations) ∙ c.section_areas-areas.ensures
 
-handed : (c : After-areas-1) → (let s = c.before.before.before.before in AreasHanded s.args.length s.args.n (take (s.args.n + 1) c.before.section_areas-areas.result))
-handed c = rw (found c) (under_deck_areas c.before.before.before.before.requires)
+handed : (c : After-areas-1) → (AreasHanded c.args.length c.args.n (take (c.args.n + 1) c.section_areas-areas.result))
+handed c = rw (found c) (under_deck_areas c.requires)
 
 pub slice_bounds-tons_over-end : goal.slice_bounds-tons_over-end
 slice_bounds-tons_over-end c = sym (handed c).stations
@@ -24,5 +24,4 @@ tons_over-requires c = handed c
 pub returns : goal.returns
 unfolding under_deck_volume
 returns c =
-    let s = c.before.before.before.before.before in
-    c.tons_over.ensures ∙ ap (λ (l : List ℕ). tons (volume_over s.args.length s.args.n l)) (found (goal.at.returns c).After-areas-1)
+    c.tons_over.ensures ∙ ap (λ (l : List ℕ). tons (volume_over c.args.length c.args.n l)) (found (goal.at.returns c).After-areas-1)

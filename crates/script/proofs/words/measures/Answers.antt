@@ -10,24 +10,24 @@ use Rattle.script.proofs.Laws.Parts.{parts_from, parts_begun, parts_ended, parts
 use native.Mathlib.Omega.{arith}
 use Rattle.script.proofs.words.measures.Goals as goal
 
-no-measures : (list : List ℕ) → is_empty_list list ≡ true → measures_of list ≡ []
+no_measures : (list : List ℕ) → is_empty_list list ≡ true → measures_of list ≡ []
 unfolding measures_of
-no-measures list e = rw e
+no_measures list e = rw e
 
-some-measures : (list : List ℕ) → is_empty_list list ≡ false → measures_of list ≡ map measure_of (parts_from 44 0 list)
+some_measures : (list : List ℕ) → is_empty_list list ≡ false → measures_of list ≡ map measure_of (parts_from 44 0 list)
 unfolding measures_of
-some-measures list e = rw (e, parts_begun 44 list)
+some_measures list e = rw (e, parts_begun 44 list)
 
 pub returns-then-is_empty_list : goal.returns-then-is_empty_list
 returns-then-is_empty_list c =
     let a = c.args in
-    let all = all_laid (none_laid a.into.now (sym (no-measures a.list.now (sym c.is_empty_list.ensures ∙ c.if-is_empty_list.true)))) refl in
+    let all = all_laid (none_laid a.into.now (sym (no_measures a.list.now (sym c.is_empty_list.ensures ∙ c.if-is_empty_list.true)))) refl in
     record { value = all.0; into_after = all.1 }
 
 pub loop-n-init : goal.loop-n-init
 loop-n-init c =
     let a = c.args in
-    (refl, none_laid a.into.now (sym (some-measures a.list.now (sym c.is_empty_list.ensures ∙ c.if-is_empty_list.false))))
+    (refl, none_laid a.into.now (sym (some_measures a.list.now (sym c.is_empty_list.ensures ∙ c.if-is_empty_list.false))))
 
 pub returns-then-list-at : goal.returns-then-list-at
 returns-then-list-at c =

@@ -26,31 +26,31 @@ loop-i-init c =
     (omega arith, rw c.blank_around-none.ensures, nothing_summed (take c.args.n c.args.records) (omega (arith, size_is c.args.records c.args.n full (omega arith))))
 
 -- a record's home is one of the 201 places that rooms are added up at
-home-low : (c : After-home-1) → (get_or c.args.homes.now c.loop-i.i 0 < 201)
-home-low c =
+home_low : (c : After-home-1) → (get_or c.args.homes.now c.loop-i.i 0 < 201)
+home_low c =
     let a = c.args in
     let full : length a.records ≡ 200 = search rules in
     let size_is_n = size_is a.records a.n full (omega arith) in
     omega (arith, home_within (take a.n a.records) a.homes.now c.requires.1.home_of c.loop-i.i (omega (arith, size_is_n)))
 
 pub offset_bounds-inside-home : goal.offset_bounds-inside-home
-offset_bounds-inside-home c = omega (arith, home-low (goal.at.offset_bounds-inside-home c).After-home-1)
+offset_bounds-inside-home c = omega (arith, home_low (goal.at.offset_bounds-inside-home c).After-home-1)
 
 pub bounds-inside-home : goal.bounds-inside-home
-bounds-inside-home c = home-low (goal.at.bounds-inside-home c).After-home-1
+bounds-inside-home c = home_low (goal.at.bounds-inside-home c).After-home-1
 
 pub offset_bounds-inside-home-in-loop-i : goal.offset_bounds-inside-home-in-loop-i
-offset_bounds-inside-home-in-loop-i c = omega (arith, home-low (goal.at.offset_bounds-inside-home-in-loop-i c).After-home-1)
+offset_bounds-inside-home-in-loop-i c = omega (arith, home_low (goal.at.offset_bounds-inside-home-in-loop-i c).After-home-1)
 
 pub bounds-inside-home-in-loop-i : goal.bounds-inside-home-in-loop-i
-bounds-inside-home-in-loop-i c = home-low (goal.at.bounds-inside-home-in-loop-i c).After-home-1
+bounds-inside-home-in-loop-i c = home_low (goal.at.bounds-inside-home-in-loop-i c).After-home-1
 
 pub overflow_add-inside : goal.overflow_add-inside
 overflow_add-inside c =
-    omega (arith, c.loop-i.invariant.2.rooms_bounded _ (home-low (goal.at.overflow_add-inside c).After-home-1), c.struct_known-1.given)
+    omega (arith, c.loop-i.invariant.2.rooms_bounded _ (home_low (goal.at.overflow_add-inside c).After-home-1), c.struct_known-1.given)
 
 pub bounds-inside-home-in-loop-i-2 : goal.bounds-inside-home-in-loop-i-2
-bounds-inside-home-in-loop-i-2 c = home-low (goal.at.bounds-inside-home-in-loop-i-2 c).After-home-1
+bounds-inside-home-in-loop-i-2 c = home_low (goal.at.bounds-inside-home-in-loop-i-2 c).After-home-1
 
 pub overflow_add-lengths : goal.overflow_add-lengths
 overflow_add-lengths c =

@@ -17,32 +17,32 @@ module _ (e : Entry) (L : Hundredths) (ds bs : List ℕ) {some : Bool} (pointed 
   abbrev told : Bool
   told = pointed_with_area e (end_areas L e.length ds bs)
 
-  by-none : some ≡ false → false ≡ told
-  by-none none = sym (unpointed e (end_areas L e.length ds bs) (fails pointed none))
+  by_none : some ≡ false → false ≡ told
+  by_none none = sym (unpointed e (end_areas L e.length ds bs) (fails pointed none))
 
   module _ (one : some ≡ true) {found : EndAreas} (areas : found ≡ end_areas L e.length ds bs) {fore : Bool} (at-fore : fore ≡ pointed_area e.fore_end found.fore) where
-    a-U : has_ends e ≡ true
-    a-U = and_left (has_ends e) (is_pointed e.fore_end || is_pointed e.aft_end) (holds pointed one)
+    a_U : has_ends e ≡ true
+    a_U = and_left (has_ends e) (is_pointed e.fore_end || is_pointed e.aft_end) (holds pointed one)
 
-    by-fore : fore ≡ true → true ≡ told
+    by_fore : fore ≡ true → true ≡ told
     unfolding pointed_with_area
-    by-fore t = rw (a-U, ← areas, ← at-fore, t)
+    by_fore t = rw (a_U, ← areas, ← at-fore, t)
 
-    by-aft : fore ≡ false → {aft : Bool} → aft ≡ pointed_area e.aft_end found.aft → aft ≡ told
+    by_aft : fore ≡ false → {aft : Bool} → aft ≡ pointed_area e.aft_end found.aft → aft ≡ told
     unfolding pointed_with_area
-    by-aft f at-aft = rw (a-U, ← areas, ← at-fore, f) at-aft
+    by_aft f at-aft = rw (a_U, ← areas, ← at-fore, f) at-aft
 
 pub returns-then-not-has_pointed_end : goal.returns-then-not-has_pointed_end
 returns-then-not-has_pointed_end c =
     let a = c.args in
-    by-none a.self a.whole a.depths.now a.breadths.now c.has_pointed_end.ensures c.if-not-has_pointed_end.true
+    by_none a.self a.whole a.depths.now a.breadths.now c.has_pointed_end.ensures c.if-not-has_pointed_end.true
 
 pub returns-then-pointed_area : goal.returns-then-pointed_area
 returns-then-pointed_area c =
     let a = c.args in
-    by-fore a.self a.whole a.depths.now a.breadths.now c.has_pointed_end.ensures c.if-not-has_pointed_end.false c.end_areas-areas.ensures c.pointed_area.ensures c.if-pointed_area.true
+    by_fore a.self a.whole a.depths.now a.breadths.now c.has_pointed_end.ensures c.if-not-has_pointed_end.false c.end_areas-areas.ensures c.pointed_area.ensures c.if-pointed_area.true
 
 pub returns : goal.returns
 returns c =
     let a = c.args in
-    by-aft a.self a.whole a.depths.now a.breadths.now c.has_pointed_end.ensures c.if-not-has_pointed_end.false c.end_areas-areas.ensures c.pointed_area.ensures c.if-pointed_area.false c.pointed_area-2.ensures
+    by_aft a.self a.whole a.depths.now a.breadths.now c.has_pointed_end.ensures c.if-not-has_pointed_end.false c.end_areas-areas.ensures c.pointed_area.ensures c.if-pointed_area.false c.pointed_area-2.ensures
