@@ -16,16 +16,16 @@ test: kit
 	@python3 tools/promises.py
 	@python3 tools/mapped.py
 	@python3 tools/header.py
-	@$(MAKE) --no-print-directory reference-tests
-	@$(MAKE) --no-print-directory proofs
+	@$(MAKE) -s --no-print-directory reference-tests
+	@$(MAKE) -s --no-print-directory proofs
 	@python3 tools/edits.py
 	@python3 tools/lists.py > target/lists.log || { cat target/lists.log; exit 1; }
 	@python3 tools/examples.py
 	@python3 tools/installed.py
-	@$(MAKE) --no-print-directory target/boundary target/stack
+	@$(MAKE) -s --no-print-directory target/boundary target/stack
 	@target/boundary
 	@target/stack
-	@$(MAKE) --no-print-directory target/bench
+	@$(MAKE) -s --no-print-directory target/bench
 	@target/bench --check
 
 # Every proof, edit, program and layout, with nothing before it and nothing beside it, since `rt` takes every processor. What it says is
@@ -51,7 +51,7 @@ $(PROGRAMS): kit
 # Builds and runs the programs in C and Rust by the README's lines, and compares what they print with the second program's answers.
 examples: kit
 	@tools/needs
-	@$(MAKE) --no-print-directory survey
+	@$(MAKE) -s --no-print-directory survey
 	@python3 tools/examples.py -v
 
 # Plays N fresh scripts at random on the proved program and on the second one, and stops at the first difference.
@@ -61,7 +61,7 @@ fuzz: survey
 
 # Times each call beside the same call in plain Rust, and how both grow with the spaces that stand (docs/PERFORMANCE.md).
 bench: kit
-	@$(MAKE) --no-print-directory target/bench
+	@$(MAKE) -s --no-print-directory target/bench
 	@target/bench
 
 # Both sides as a release has them: the kit compiles the archive at -O3 for x86-64 of level v2, and so is the plain side here.
