@@ -1,14 +1,14 @@
 /* Fummidrake for C: a surveyor's sheet of spaces, its tonnages by 46 CFR 69.107 to 69.119, and the day's file.
  *
- * Every call takes any numbers and any sheet, ends, and answers what its promise in crates/fummidrake/src/lib.rt says; nothing
+ * Every call takes any numbers and any sheet, ends, and answers what its promise in crates/fummidrake_c/src/lib.rt says; nothing
  * has to be checked first, but that a pointer is not null and has as many numbers or bytes behind it as are said, and that the two
  * buffers of a move don't overlap. A sheet goes in by value and comes back with the answer; the calls that end in _on, at the end of
  * this file, change the caller's sheet in place.
  * A sheet's fields are for the calls alone: a sheet comes from fummidrake_open, fummidrake_read or a call, and one that is all zeros
  * is not open.
  *
- * The archive is for x86-64 and wants memcpy, memmove and memset, nothing else: no other call of a C library, no heap, no input or
- * output. How much stack a call takes stands below, beside FUMMIDRAKE_STACK.
+ * The archive is for x86-64 of level v2 or later and wants memcpy, memmove and memset, nothing else: no other call of a C library, no
+ * heap, no input or output. How much stack a call takes stands below, beside FUMMIDRAKE_STACK.
  *
  * Lengths, heights, depths and breadths are in hundredths of a foot, tonnages in hundredths of a ton.
  * Kinds: 1 U under-deck part, 2 B between-deck level, 3 S superstructure, 4 H hatchway, 5 R room.

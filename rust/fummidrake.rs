@@ -1,6 +1,6 @@
 //! Fummidrake 0.1.0 for Rust: safe calls over the declarations of `include/fummidrake.h`, which says what each answers.
 //!
-//! To take it: lay this one file among your own, say `mod fummidrake;`, and link the archive, for x86-64, by
+//! To take it: lay this one file among your own, say `mod fummidrake;`, and link the archive, for x86-64 of level v2 or later, by
 //! `rustc -L target/staticlib -l static=fummidrake` or a `build.rs` that prints `cargo::rustc-link-search=` with the archive's folder and
 //! `cargo::rustc-link-lib=static=fummidrake`. It needs Rust 1.88 or later, and no crate.
 //!
