@@ -17,7 +17,7 @@ BAD = re.compile(r', \d+ bad\b')
 TRIED = re.compile(r'^rt: must-fail (\w+/[\w.-]+\.edit): (.*)', re.M)
 REFUSED = 'refused, as it must be: '
 SHAPE = re.compile(r'which was rejected, w|has no `|has no field|is not in scope|was not admitted|expected type `goal\.|has type `Lts\.')
-UNANSWERED = re.compile(r'note: src/(\w+)\.rt:\d+:\d+: it is not proved .*\(`([^`]+)`\)')
+UNANSWERED = re.compile(r'note: src/(\w+)\.rt:\d+:\d+: it is not proved .*\(`([^`]+)`\)(?:; `search` gave up.*)?')
 ANSWER = re.compile(r'^(?:pub )?([a-z]\S*) :(?= |$)', re.M)
 COMPARISON = re.compile(r'(?<=-)(?:lt|le|gt|ge|eq|ne)(?![a-z])')
 
