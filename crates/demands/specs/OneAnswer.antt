@@ -1,9 +1,10 @@
 -- "For every input, refusals too, each public promise determines the answer, the sheet handed back and each byte of a lent buffer.
 -- Prove that no second answer could satisfy it": what that says of one function, about its contract itself. The check keeps of each
 -- public function F
---   F.ended: what it takes, what it answers, and which parameters it is lent to change (`&mut`);
---   F.Reads.Asked: what its `requires` come to, of the values given;
---   F.Reads.Learnt: what its `ensures` come to, of the values given, the answer, and what a parameter lent to change holds at the end.
+--   F.ended, in specs.contracts: what it takes, what it answers, and which parameters it is lent to change (`&mut`);
+--   F.Reads.Asked, in proofs: what its `requires` come to, of the values given;
+--   F.Reads.Learnt, there too: what its `ensures` come to, of the values given, the answer, and what a parameter lent to change holds
+--     at the end.
 -- Lifetimes, which say how long what is lent stays lent, are given with the values.
 use Rattle.std.specs.Prelude.{◌≡◌}
 use contract.Lifetimes.{Lfts}
