@@ -122,7 +122,7 @@ module _ (s : Sheet) (whole : Places s) where
           ∙ sym (inserted_behind s.count x (omega arith))
           ∙ ap (λ (k : ℕ). inserted k x (standing s)) (sym m)
 
-  place_in : (p : ℕ) (x : Space) → s.count < 200
+  pub place_in : (p : ℕ) (x : Space) → s.count < 200
       → placed (paste s.spaces (min p s.count) (x ∷ drop (min p s.count) s.spaces) (s.count + 1 - min p s.count)) (s.count + 1) s ≡ fitted (inserted p x (standing s)) s
   place_in p x h =
       let sp = s.spaces in
