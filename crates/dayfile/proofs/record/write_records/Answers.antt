@@ -12,14 +12,14 @@ use Rattle.dayfile.specs.Record.{record_size, record_bytes, records}
 use Rattle.dayfile.proofs.Laws.Stores.{stored_in_part}
 use Rattle.dayfile.proofs.Laws.Record.{one_more_record, record_within, record_stored}
 use Rattle.std.proofs.Common.{rules}
-use Rattle.dayfile.proofs.record.write_records.Goals.{After-x-1}
+use Rattle.dayfile.proofs.record.write_records.Goals.{In-loop-i}
 use Rattle.dayfile.proofs.record.write_records.Goals as goal
 
 pub loop-i-init : goal.loop-i-init
 loop-i-init c = (zero-le, sym (mul-zero (record_size c.args.form)), refl, refl)
 
 -- one record more is within the buffer
-within : (c : After-x-1)
+within : (c : In-loop-i)
     → (let a = c.args in c.loop-i.at + record_size a.form ≤ length c.loop-i.buf)
 within c =
     let l = c.loop-i in
@@ -27,17 +27,17 @@ within c =
     omega (arith, l.invariant.1, l.invariant.2, c.requires.1, record_within (record_size a.form) l.i a.count c.loop-i-test.true)
 
 pub slice_bounds-write_record-count : goal.slice_bounds-write_record-count
-slice_bounds-write_record-count c = omega (arith, within c)
+slice_bounds-write_record-count c = omega (arith, within (goal.at.slice_bounds-write_record-count c).In-loop-i)
 
 pub slice_bounds-write_record-start : goal.slice_bounds-write_record-start
-slice_bounds-write_record-start c = omega (arith, within c)
+slice_bounds-write_record-start c = omega (arith, within (goal.at.slice_bounds-write_record-start c).In-loop-i)
 
 pub write_record-requires : goal.write_record-requires
-write_record-requires c = simp (length-take, length-drop) (omega (arith, within (goal.at.write_record-requires c).After-x-1))
+write_record-requires c = simp (length-take, length-drop) (omega (arith, within (goal.at.write_record-requires c).In-loop-i))
 
 pub overflow_add-at : goal.overflow_add-at
 overflow_add-at c =
-    record { fits = omega (arith, within (goal.at.overflow_add-at c).After-x-1, c.record_size-size.ensures.0) }
+    record { fits = omega (arith, within (goal.at.overflow_add-at c).In-loop-i, c.record_size-size.ensures.0) }
 
 pub loop-i-preserved : goal.loop-i-preserved
 loop-i-preserved c =
@@ -50,7 +50,7 @@ loop-i-preserved c =
     let same : get_or (take a.count a.spaces) l.i empty_space ≡ x = get_or-take a.count a.spaces l.i empty_space (omega arith) in
     let stored =
     ap (λ (d : List ℕ). take l.at l.buf ++ (d ++ drop (length l.buf - l.at) (drop l.at l.buf))) c.write_record.ensures
-    ∙ stored_in_part l.buf (record_bytes f x) l.at (omega (arith, within (goal.at.loop-i-preserved c).After-x-1))
+    ∙ stored_in_part l.buf (record_bytes f x) l.at (omega (arith, within (goal.at.loop-i-preserved c).In-loop-i))
     ∙ ap (λ (y : Space). sets l.buf l.at (record_bytes f y)) (sym same) in (
       omega arith,
       omega (arith, l.invariant.1, c.record_size-size.ensures.0, one_more_record (record_size f) l.i),

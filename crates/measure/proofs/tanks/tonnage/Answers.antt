@@ -11,7 +11,7 @@ use Rattle.measure.specs.Handed.{AreasHanded}
 use Rattle.measure.proofs.Laws.Parts.{most}
 use Rattle.measure.proofs.Laws.Tanks.{tank_areas, areas_taken}
 use Rattle.measure.proofs.tanks.tonnage.Goals as goal
-use Rattle.measure.proofs.tanks.tonnage.Goals.{After-areas-1}
+use Rattle.measure.proofs.tanks.tonnage.Goals.{After-taken-areas}
 
 pub overflow_add-stations : goal.overflow_add-stations
 overflow_add-stations c = omega (arith, most c.requires.0.laid.of_tank)
@@ -25,23 +25,23 @@ taken-areas-requires c = omega (arith, most c.requires.0.laid.of_tank)
 pub slice_bounds-areas-end : goal.slice_bounds-areas-end
 slice_bounds-areas-end c = omega (arith, most c.requires.0.laid.of_tank)
 
-found : (c : After-areas-1) → (let a = c.args in take (a.a.p + 1) c.taken-areas.result ≡ taken (doubled a.a) (areas a.m a.depths.now a.breadths.now))
+found : (c : After-taken-areas) → (let a = c.args in take (a.a.p + 1) c.taken-areas.result ≡ taken (doubled a.a) (areas a.m a.depths.now a.breadths.now))
 found c =
     let a = c.args in
     areas_taken a.a a.m a.depths.now a.breadths.now c.requires.1 a.two c.section_areas.result c.taken-areas.result c.requires.0 c.section_areas.ensures c.taken-areas.ensures
 
-handed : (c : After-areas-1) → (let a = c.args in AreasHanded a.a.l a.a.p (take (a.a.p + 1) c.taken-areas.result))
+handed : (c : After-taken-areas) → (let a = c.args in AreasHanded a.a.l a.a.p (take (a.a.p + 1) c.taken-areas.result))
 handed c =
     rw (found c) (tank_areas c.args.a c.args.m c.args.depths.now c.args.breadths.now c.requires.1 c.requires.0.laid)
 
 pub slice_bounds-tons_over-end : goal.slice_bounds-tons_over-end
-slice_bounds-tons_over-end c = sym (handed c).stations
+slice_bounds-tons_over-end c = sym (handed (goal.at.slice_bounds-tons_over-end c).After-taken-areas).stations
 
 pub tons_over-requires : goal.tons_over-requires
-tons_over-requires c = handed c
+tons_over-requires c = handed (goal.at.tons_over-requires c).After-taken-areas
 
 pub returns : goal.returns
 unfolding tank_volume
 returns c =
     let a = c.args in
-    c.tons_over.ensures ∙ ap (λ (l : List ℕ). tons (volume_over a.a.l a.a.p l)) (found (goal.at.returns c).After-areas-1)
+    c.tons_over.ensures ∙ ap (λ (l : List ℕ). tons (volume_over a.a.l a.a.p l)) (found (goal.at.returns c).After-taken-areas)

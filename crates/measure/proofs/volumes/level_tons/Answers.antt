@@ -10,7 +10,7 @@ use Rattle.measure.proofs.Laws.Parts.{least, most}
 use Rattle.measure.proofs.Laws.Volumes.{level_area_le, level_le}
 use native.Mathlib.Omega.{arith}
 use Rattle.measure.proofs.volumes.level_tons.Goals as goal
-use Rattle.measure.proofs.volumes.level_tons.Goals.{After-struct_known-1, After-plain_sum}
+use Rattle.measure.proofs.volumes.level_tons.Goals.{After-weighted_sum, After-plain_sum}
 
 pub third_of_length-third-requires : goal.third_of_length-third-requires
 third_of_length-third-requires c =
@@ -24,11 +24,11 @@ weighted_sum-requires c =
     let hi = most g.parts in
     (hi, omega (arith, g.count))
 
-area : (c : After-struct_known-1) → (c.weighted_sum.result * c.third_of_length-third.result.0 ≡ weighted c.args.n c.args.breadths.now * (third_of_length c.args.length c.args.n).0)
+area : (c : After-weighted_sum) → (c.weighted_sum.result * c.third_of_length-third.result.0 ≡ weighted c.args.n c.args.breadths.now * (third_of_length c.args.length c.args.n).0)
 area c = ap₂ ◌*◌ c.weighted_sum.ensures (ap (λ t. t.0) c.third_of_length-third.ensures)
 
 pub overflow_mul-area : goal.overflow_mul-area
-overflow_mul-area c = omega (arith, area c, level_area_le c.requires)
+overflow_mul-area c = omega (arith, area (goal.at.overflow_mul-area c).After-weighted_sum, level_area_le c.requires)
 
 pub plain_sum-requires : goal.plain_sum-requires
 plain_sum-requires c =
@@ -36,7 +36,7 @@ plain_sum-requires c =
     omega (arith, most g.parts, g.stations)
 
 volume : (c : After-plain_sum) → (c.weighted_sum.result * c.third_of_length-third.result.0 * c.plain_sum.result ≡ weighted c.args.n c.args.breadths.now * (third_of_length c.args.length c.args.n).0 * total c.args.heights.now)
-volume c = ap₂ ◌*◌ (area (goal.at.overflow_mul-volume c).After-struct_known-1) c.plain_sum.ensures
+volume c = ap₂ ◌*◌ (area (goal.at.overflow_mul-volume c).After-weighted_sum) c.plain_sum.ensures
 
 volume_le : (c : After-plain_sum) → c.weighted_sum.result * c.third_of_length-third.result.0 * c.plain_sum.result ≤ most_tons * (10000000 * (c.args.n + 1))
 volume_le c = omega (arith, volume c, level_le c.requires)

@@ -13,7 +13,7 @@ use Rattle.spaces.specs.declared.space.Space.{Space}
 use Rattle.spaces.proofs.Laws.Places.{home_within}
 use Rattle.spaces.proofs.Laws.Around.{nothing_summed, one_summed, gathered, around_first, around_more, around_all}
 use Rattle.std.proofs.Common.{rules}
-use Rattle.spaces.proofs.around.around_places.Goals.{After-home-1}
+use Rattle.spaces.proofs.around.around_places.Goals.{In-loop-i}
 use Rattle.spaces.proofs.around.around_places.Goals as goal
 
 -- as many as n
@@ -26,7 +26,7 @@ loop-i-init c =
     (omega arith, rw c.blank_around-none.ensures, nothing_summed (take c.args.n c.args.records) (omega (arith, size_is c.args.records c.args.n full (omega arith))))
 
 -- a record's home is one of the 201 places that rooms are added up at
-home_low : (c : After-home-1) → (get_or c.args.homes.now c.loop-i.i 0 < 201)
+home_low : (c : In-loop-i) → (get_or c.args.homes.now c.loop-i.i 0 < 201)
 home_low c =
     let a = c.args in
     let full : length a.records ≡ 200 = search rules in
@@ -34,23 +34,23 @@ home_low c =
     omega (arith, home_within (take a.n a.records) a.homes.now c.requires.1.home_of c.loop-i.i (omega (arith, size_is_n)))
 
 pub offset_bounds-inside-home : goal.offset_bounds-inside-home
-offset_bounds-inside-home c = omega (arith, home_low (goal.at.offset_bounds-inside-home c).After-home-1)
+offset_bounds-inside-home c = omega (arith, home_low (goal.at.offset_bounds-inside-home c).In-loop-i)
 
 pub bounds-inside-home : goal.bounds-inside-home
-bounds-inside-home c = home_low (goal.at.bounds-inside-home c).After-home-1
+bounds-inside-home c = home_low (goal.at.bounds-inside-home c).In-loop-i
 
 pub offset_bounds-inside-home-in-loop-i : goal.offset_bounds-inside-home-in-loop-i
-offset_bounds-inside-home-in-loop-i c = omega (arith, home_low (goal.at.offset_bounds-inside-home-in-loop-i c).After-home-1)
+offset_bounds-inside-home-in-loop-i c = omega (arith, home_low (goal.at.offset_bounds-inside-home-in-loop-i c).In-loop-i)
 
 pub bounds-inside-home-in-loop-i : goal.bounds-inside-home-in-loop-i
-bounds-inside-home-in-loop-i c = home_low (goal.at.bounds-inside-home-in-loop-i c).After-home-1
+bounds-inside-home-in-loop-i c = home_low (goal.at.bounds-inside-home-in-loop-i c).In-loop-i
 
 pub overflow_add-inside : goal.overflow_add-inside
 overflow_add-inside c =
-    omega (arith, c.loop-i.invariant.2.rooms_bounded _ (home_low (goal.at.overflow_add-inside c).After-home-1), c.struct_known-1.given)
+    omega (arith, c.loop-i.invariant.2.rooms_bounded _ (home_low (goal.at.overflow_add-inside c).In-loop-i))
 
 pub bounds-inside-home-in-loop-i-2 : goal.bounds-inside-home-in-loop-i-2
-bounds-inside-home-in-loop-i-2 c = home_low (goal.at.bounds-inside-home-in-loop-i-2 c).After-home-1
+bounds-inside-home-in-loop-i-2 c = home_low (goal.at.bounds-inside-home-in-loop-i-2 c).In-loop-i
 
 pub overflow_add-lengths : goal.overflow_add-lengths
 overflow_add-lengths c =
@@ -74,7 +74,7 @@ loop-i-preserved c =
     (gathered a.records a.n a.homes.now a.owns.now a.standings.now c.requires.1 i at c.loop-i.inside c.loop-i.lengths sums) in (
       omega arith,
       ap (λ (row : List Around). set row i told) c.loop-i.invariant.1 ∙ ap (set (around_first xs i) i) known ∙ around_more xs i at (omega (arith, size)),
-      one_summed xs i c.loop-i.inside c.loop-i.lengths sums at (omega (arith, size)) (get_or a.records i empty_space) same home (c.requires.1.home_of i at) c.share-lengths.result c.share-lengths.ensures.0 (omega (arith, c.struct_known-1.given)) c.share-lengths.ensures.1,
+      one_summed xs i c.loop-i.inside c.loop-i.lengths sums at (omega (arith, size)) (get_or a.records i empty_space) same home (c.requires.1.home_of i at) c.share-lengths.result c.share-lengths.ensures.0 (omega (arith)) c.share-lengths.ensures.1,
     )
 
 pub returns : goal.returns
