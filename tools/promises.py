@@ -95,7 +95,7 @@ def public_functions(crate: str) -> Iterator[Function]:
 
 
 def libraries() -> list[str]:
-    """In the order of crates.txt."""
+    """In the order of crates.txt. An archive (`NAME staticlib:`) isn't one: no crate can stand on it, so no row can speak of it."""
     names = re.findall(r'^(\w+):', Path('crates.txt').read_text(), re.M)
     return [name for name in names if Path('crates', name, 'src', 'lib.rt').exists()]
 

@@ -1,7 +1,7 @@
 #!/usr/bin/env python3
 """Turns the repository's own definitions and lemmas to the spelling of today's Rattle: words in snake case, modules in camel case.
 
-usage: tools/spelling.py          at the top of the repository, once, after the port.py of the kit
+usage: tools/spelling.py [--map]    at the top of the repository, once, after the port.py of the kit; --map prints each name turned
 
 A name is turned where one of the repository's .antt files declares it, or a `use` line gives it (`as`): `tableParts` and
 `table-is` become `table_parts` and `table_is`. Names that begin with a capital are types and stay. Functions of src/, exported C
@@ -10,7 +10,6 @@ folders proofs/laws are modules: Laws.
 """
 import os
 import re
-import subprocess
 import sys
 
 TOKEN = re.compile(r"[^\s(){}.;,@\"«»\[\]`]+")
@@ -65,6 +64,10 @@ def from_library(text):
 
 
 def main():
+    if sys.argv[1:] not in ([], ["--map"]):
+        raise SystemExit(__doc__)
+    if os.path.exists("docs/PORT.md"):
+        raise SystemExit("docs/PORT.md is here: the crates have today's spelling, and a second run would turn what has it")
     files = {p: open(p, encoding="utf-8").read() for p in texts()}
     bare = {p: without_comments(p, t) for p, t in files.items()}
     library = set()

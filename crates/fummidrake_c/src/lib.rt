@@ -17,10 +17,7 @@ ghost use Rattle.listing.specs.Listing.{listed};
 
 use dayfile::{Moved, Reading, Written};
 use listing::Listing;
-use measure::kinds::kind_of;
-use measure::offsets::{breadths_at_station, stations};
-use measure::tanks::{LaidOut, lay_out, section_station};
-use measure::units::Hundredths;
+use measure::tanks::LaidOut;
 use sheet::{Changed, Counted, Entering, Entry, Reported, Sheet, Tank, TankEntering};
 use spaces::space::Space;
 
