@@ -18,11 +18,14 @@ THEOREM = Path('crates/demands/proofs/NoSecondAnswer.antt')
 ROWS = '-- ---- the rows\n'  # what follows this line is as this program prints it
 USES = re.compile(r"(?:^use Rattle\.\w+\.(?:proofs|specs\.contracts) as \w+'?\n)+", re.M)
 
+# What is answered here is for whoever hands over a reader to say (docs/EXCEPTIONS.md).
+WITH_A_READER = {'input::read_full'}
+
 MODULE = re.compile(r'^pub mod (\w+);', re.M)
 EXPORTED = re.compile(r'^pub use (\w+)::(?:(\w+)|\{([^}]*)\});', re.M)
 TYPE = re.compile(r'^(?:pub )?(?:struct|enum) (\w+)', re.M)
 IMPL = re.compile(r'^impl (\w+) \{$.*?^\}$', re.M | re.S)
-HEAD = re.compile(r'^[ \t]*pub (?:extern "C" )?fn (\w+)\(', re.M)
+HEAD = re.compile(r'^[ \t]*pub (?:extern "C" )?fn (\w+)(?:<[^>]*>)?\(', re.M)
 PARAMETER = re.compile(r'(?:^|,)\s*(?:mut )?(self\b|\w+\s*:[^,]*)')
 LENT = re.compile(r"&(?:'\w+ )?mut ")
 PART = re.compile(r'\s*->\s*&')
@@ -86,6 +89,8 @@ def public_functions(crate: str) -> Iterator[Function]:
             home, item = (homes[of], of) if of else (module, head[1])
             if home != 'lib' and home not in modules and (home, item) not in exported:
                 sys.exit(f'{source}/{module}.rt: {head[1]} is public, and neither its module nor a `pub use` is')
+            if f'{crate}::{head[1]}' in WITH_A_READER:
+                continue
             path = f'{home}.{of}.{head[1]}' if of else f'{home}.{head[1]}' if home in modules else head[1]
             end = closing(text, head.end())
             lent = [bool(LENT.search(each)) for each in PARAMETER.findall(text[head.end():end - 1])]

@@ -1,9 +1,10 @@
 -- "For every input, refusals too, each public promise determines the answer, the sheet handed back and each byte of a lent buffer.
 -- Prove that no second answer could satisfy it": a theorem for every public function of every library, the calls that are exported
--- to C and Rust too, about the contract that the check proved of it. What `One` and `OneBy` say is in specs/OneAnswer: whatever is given, nothing
--- is asked of it, and two ends that the contract allows are one, in the answer and in every value left in what was lent to change.
--- Every contract says `.. ≡ definition`, so the idea of each proof is that two things equal to a third are equal. tools/promises.py
--- writes the rows, and fails where a public function has none or where a row says anything else.
+-- to C and Rust too, about the contract that the check proved of it. What `One` and `OneBy` say is in specs/OneAnswer: whatever is
+-- given, nothing is asked of it, and two ends that the contract allows are one, in the answer and in every value left in what was lent
+-- to change. Every contract says `.. ≡ definition`, so the idea of each proof is that two things equal to a third are equal.
+-- tools/promises.py writes the rows, and fails where a public function has none or where a row says anything else. (`input::read_full`
+-- has none: what is read is for the reader to say that is handed over.)
 use mathlib.Core.Path.{◌≡◌, refl, sym, ap, ◌∙◌}
 use Rattle.demands.specs.OneAnswer.{One, OneBy}
 use Rattle.dayfile.proofs as dayfile

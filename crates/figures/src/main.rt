@@ -8,14 +8,12 @@
 // Words, numbers and lists are those of `survey`, and so are the remarks on a line that is none of these.
 #![tactic(auto)]
 
-ghost use Rattle.std.specs.Prelude.{◌≤◌, length, IfOk};
-
+use input::read_full;
 use measure::units::Hundredths;
 use script::calls::Line;
 use script::remarks::Remark;
 use script::{calls, remarks, text, words};
 use std::io;
-use std::io::Read;
 
 // The calls, by the places of their forms (`script::calls::figures_line`); the last is `ballast`.
 const SPACE: usize = 0;
@@ -29,21 +27,6 @@ fn main(rt: HostRuntime) -> io::Result<()> {
         return answer_remark(&rt, Remark::ScriptTooLong);
     }
     answer_lines(&rt, &script[..n])
-}
-
-// Reads until the buffer is full or the input ends, and answers how many bytes it put at the buffer's front.
-fn read_full(input: &mut impl Read, buf: &mut [u8]) -> io::Result<usize>
-    ensures { IfOk result (λ n. n ≤ length buf.new) }
-{
-    let mut n = 0;
-    while n < buf.len() {
-        let more = input.read(&mut buf[n..])?;
-        if more == 0 {
-            break;
-        }
-        n += more;
-    }
-    Ok(n)
 }
 
 fn answer_lines(rt: &impl Print, script: &[u8]) -> io::Result<()> {

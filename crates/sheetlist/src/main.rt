@@ -2,10 +2,11 @@
 // is `listing::list`'s text: that is proved of any reader and writer whose bytes are known, and tested of the two streams.
 #![tactic(auto)]
 
-ghost use Rattle.std.specs.Prelude.{◌≡◌, ◌≤◌, ◌<◌, length, take, OnOk, IfOk, IfSome};
-ghost use Rattle.std.specs.Io.KnownBytes.{Appends, Consumes, IsAtEnd};
+ghost use Rattle.std.specs.Prelude.{◌≡◌, length, OnOk, IfSome};
+ghost use Rattle.std.specs.Io.KnownBytes.{Appends};
 ghost use Rattle.listing.specs.Listing.{file_text};
 
+use input::read_full;
 use listing::list;
 use std::io;
 use std::io::{Read, Write};
@@ -33,21 +34,4 @@ fn file_buffer() -> [u8; 65537]
     ensures { 65537 ≡ length result }
 {
     [0; 65537]
-}
-
-// Reads until the buffer is full or the input ends, and answers how many bytes it put at the buffer's front.
-fn read_full<R: Read>(input: &mut R, buf: &mut [u8]) -> io::Result<usize>
-    ensures bound { IfOk result (λ n. n ≤ length buf.new) }
-    ensures bytes { IfOk result (λ n. Consumes (R.remaining input.old) (R.remaining input.new) (take n buf.new)) }
-    ensures whole { IfOk result (λ n. n < length buf.new → IsAtEnd (R.remaining input.new)) }
-{
-    let mut n = 0;
-    while n < buf.len() {
-        let more = input.read(&mut buf[n..])?;
-        if more == 0 {
-            break;
-        }
-        n += more;
-    }
-    Ok(n)
 }

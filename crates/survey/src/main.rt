@@ -5,15 +5,13 @@
 
 mod answers;
 
-ghost use Rattle.std.specs.Prelude.{◌≤◌, length, IfOk};
-
+use input::read_full;
 use measure::units::Hundredths;
 use script::calls::Line;
 use script::remarks::Remark;
 use script::{calls, hex, text, words};
 use sheet::{Changed, Entry, Sheet, Tank};
 use std::io;
-use std::io::Read;
 
 // The calls, by the places of their forms (`script::calls::survey_line`); the last is `spaces`.
 const OPEN: usize = 0;
@@ -67,21 +65,6 @@ fn main(rt: HostRuntime) -> io::Result<()> {
         return answers::remark(&rt, Remark::ScriptTooLong);
     }
     answer_lines(&rt, &script[..n])
-}
-
-// Reads until the buffer is full or the input ends, and answers how many bytes it put at the buffer's front.
-fn read_full(input: &mut impl Read, buf: &mut [u8]) -> io::Result<usize>
-    ensures { IfOk result (λ n. n ≤ length buf.new) }
-{
-    let mut n = 0;
-    while n < buf.len() {
-        let more = input.read(&mut buf[n..])?;
-        if more == 0 {
-            break;
-        }
-        n += more;
-    }
-    Ok(n)
 }
 
 // At the start the current sheet is one not open.

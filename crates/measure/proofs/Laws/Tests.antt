@@ -5,12 +5,9 @@ use Prim.Native.Nat.{ℕ, ◌≤◌, ◌<◌}
 use lib.Dec.{ltb}
 use borrow.Author.Tests.{ltb-true, ltb-false, lt-ltb, le-ltb}
 
--- what an answer says of what was asked
-pub holds : {r b : Bool} → r ≡ b → r ≡ true → b ≡ true
-holds e n = sym e ∙ n
-
-pub fails : {r b : Bool} → r ≡ b → r ≡ false → b ≡ false
-fails e n = sym e ∙ n
+-- what was asked is so, or isn't, as it was answered
+pub as_answered : {asked answer said : Bool} → answer ≡ asked → answer ≡ said → asked ≡ said
+as_answered e n = sym e ∙ n
 
 pub and_left : (a b : Bool) → (a && b) ≡ true → a ≡ true
 and_left true b e = refl

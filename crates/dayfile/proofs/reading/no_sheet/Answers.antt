@@ -4,7 +4,7 @@ use mathlib.Core.Path.{◌≡◌, sym, ap, ◌∙◌}
 use mathlib.Core.List.{List}
 use lib.Dec.{ltb}
 use lib.ListN.{length, get_or}
-use Rattle.measure.proofs.Laws.Tests.{holds, fails}
+use Rattle.measure.proofs.Laws.Tests.{as_answered}
 use Rattle.dayfile.specs.Trailer.{trailer_size, trailer_numbers, trailer_right}
 use Rattle.dayfile.specs.Reading.{last_numbers}
 use Rattle.dayfile.proofs.Laws.Stores.{lent_part}
@@ -24,11 +24,11 @@ numbers c =
 pub returns-then-not-trailer_right : goal.returns-then-not-trailer_right
 returns-then-not-trailer_right c =
     let file = c.args.file.now in
-    let e = ap trailer_right (sym (numbers (goal.at.returns-then-not-trailer_right c).After-read_trailer-numbers)) ∙ fails c.trailer_right.ensures c.if-not-trailer_right.true in
+    let e = ap trailer_right (sym (numbers (goal.at.returns-then-not-trailer_right c).After-read_trailer-numbers)) ∙ as_answered c.trailer_right.ensures c.if-not-trailer_right.true in
     sym (wrong_trailer file c.if-size-lt-TRAILER_SIZE.false e)
 
 pub returns : goal.returns
 returns c =
     let file = c.args.file.now in
-    let e = ap trailer_right (sym (numbers (goal.at.returns c).After-read_trailer-numbers)) ∙ holds c.trailer_right.ensures c.if-not-trailer_right.false in
+    let e = ap trailer_right (sym (numbers (goal.at.returns c).After-read_trailer-numbers)) ∙ as_answered c.trailer_right.ensures c.if-not-trailer_right.false in
     ap (λ (v : List ℕ). ltb (length file) (get_or v 0 0)) (numbers (goal.at.returns c).After-read_trailer-numbers) ∙ sym (by_distance file c.if-size-lt-TRAILER_SIZE.false e)

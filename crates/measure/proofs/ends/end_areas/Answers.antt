@@ -11,7 +11,7 @@ use Rattle.measure.specs.Ends.{end_areas}
 use Rattle.measure.specs.Handed.{UnderDeckHanded, Taken}
 use Rattle.measure.specs.declared.units.Hundredths.{Hundredths}
 use Rattle.measure.specs.declared.kinds.Kind.TheVariants.{UnderDeck}
-use Rattle.measure.proofs.Laws.Tests.{holds, fails}
+use Rattle.measure.proofs.Laws.Tests.{as_answered}
 use Rattle.measure.proofs.Laws.Offsets.{under_deck_taken}
 use Rattle.measure.proofs.Laws.Ends.{ends_taken, ends_found}
 use Rattle.measure.proofs.ends.end_areas.Goals.{After-of_depth}
@@ -21,15 +21,15 @@ use Rattle.measure.proofs.ends.end_areas.Goals as goal
 module _ (t l : Hundredths) (ds bs : List ℕ) {r : Bool} (ranged : r ≡ in_range UnderDeck t l ds bs) where
   out_of_range : r ≡ false → record { fore = 0; aft = 0 } ≡ end_areas t l ds bs
   unfolding end_areas
-  out_of_range fell = rw (fails ranged fell)
+  out_of_range fell = rw (as_answered ranged fell)
 
   module _ (in_range : r ≡ true) {n : Bool} (numbered : n ≡ counted UnderDeck t l ds bs) where
     miscounted : n ≡ false → record { fore = 0; aft = 0 } ≡ end_areas t l ds bs
     unfolding end_areas
-    miscounted fell = rw (holds ranged in_range, fails numbered fell)
+    miscounted fell = rw (as_answered ranged in_range, as_answered numbered fell)
 
     both_hold : n ≡ true → Taken UnderDeck t l ds bs
-    both_hold held = record { ranged = holds ranged in_range; numbered = holds numbered held }
+    both_hold held = record { ranged = as_answered ranged in_range; numbered = as_answered numbered held }
 
 pub returns-then-not-in_range : goal.returns-then-not-in_range
 returns-then-not-in_range c =

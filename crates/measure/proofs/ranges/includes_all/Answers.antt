@@ -2,7 +2,7 @@
 use mathlib.Core.Path.{refl, sym, ap, ◌∙◌}
 use lib.ListN.{drop_of_length-le}
 use Rattle.measure.specs.Ranges.{includes_all}
-use Rattle.measure.proofs.Laws.Tests.{holds, fails}
+use Rattle.measure.proofs.Laws.Tests.{as_answered}
 use Rattle.measure.proofs.Laws.Ranges.{includes_all_step}
 use native.Mathlib.Omega.{arith}
 use Rattle.measure.proofs.ranges.includes_all.Goals as goal
@@ -15,12 +15,12 @@ returns-then-not-includes c =
     sym
     (sym c.loop-i.invariant.1
     ∙ includes_all_step c.args.range c.loop-i.i c.args.xs.now c.loop-i-test.true
-    ∙ simp (fails c.includes.ensures c.if-not-includes.true))
+    ∙ simp (as_answered c.includes.ensures c.if-not-includes.true))
 
 pub loop-i-preserved : goal.loop-i-preserved
 loop-i-preserved c =
     let st = includes_all_step c.args.range c.loop-i.i c.args.xs.now c.loop-i-test.true in
-    (omega arith, sym (st ∙ simp (holds c.includes.ensures c.if-not-includes.false)) ∙ c.loop-i.invariant.1)
+    (omega arith, sym (st ∙ simp (as_answered c.includes.ensures c.if-not-includes.false)) ∙ c.loop-i.invariant.1)
 
 pub returns : goal.returns
 returns c =

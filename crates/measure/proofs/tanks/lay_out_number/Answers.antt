@@ -3,23 +3,23 @@ use mathlib.Core.Path.{◌≡◌, sym, ◌∙◌}
 use mathlib.Core.Bool.{Bool, true, false}
 use Rattle.measure.specs.Tanks.{passes_end, lengths_fit, lay_out_number}
 use Rattle.measure.specs.declared.units.Hundredths.{Hundredths}
-use Rattle.measure.proofs.Laws.Tests.{holds, fails}
+use Rattle.measure.proofs.Laws.Tests.{as_answered}
 use Rattle.measure.proofs.tanks.lay_out_number.Goals as goal
 
 -- the number by the outcomes of the two tests
 module _ (t u l f : Hundredths) {fit : Bool} (fitted : fit ≡ lengths_fit t u l f) where
   with_2 : fit ≡ false → 2 ≡ lay_out_number t u l f
   unfolding lay_out_number
-  with_2 out = simp (fails fitted out)
+  with_2 out = simp (as_answered fitted out)
 
   module _ (fits : fit ≡ true) {past : Bool} (ended : past ≡ passes_end u l f) where
     with_9 : past ≡ true → 9 ≡ lay_out_number t u l f
     unfolding lay_out_number
-    with_9 passes = simp (holds fitted fits, sym ended ∙ passes)
+    with_9 passes = simp (as_answered fitted fits, sym ended ∙ passes)
 
     accepted : past ≡ false → 0 ≡ lay_out_number t u l f
     unfolding lay_out_number
-    accepted inside = simp (holds fitted fits, sym ended ∙ inside)
+    accepted inside = simp (as_answered fitted fits, sym ended ∙ inside)
 
 pub returns-then-not-lengths_fit : goal.returns-then-not-lengths_fit
 returns-then-not-lengths_fit c =

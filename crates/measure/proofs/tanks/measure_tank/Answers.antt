@@ -9,7 +9,7 @@ use Rattle.measure.specs.Tanks.{tank_volume, tank_in_range, passes_end, has_m, a
 use Rattle.measure.specs.Handed.{Laid, Doubled, TankHanded}
 use Rattle.measure.specs.declared.units.Hundredths.{Hundredths}
 use Rattle.measure.specs.declared.sections.Layout.{Layout}
-use Rattle.measure.proofs.Laws.Tests.{holds, fails}
+use Rattle.measure.proofs.Laws.Tests.{as_answered}
 use Rattle.measure.proofs.Laws.Parts.{most}
 use Rattle.measure.proofs.Laws.Tanks.{has_m_even, tank_handed}
 use Rattle.measure.proofs.tanks.measure_tank.Goals as goal
@@ -19,32 +19,32 @@ use Rattle.measure.proofs.tanks.measure_tank.Goals.{After-doubled-two}
 module _ (t u : Hundredths) (m : ℕ) (l f : Hundredths) (ds bs : List ℕ) {range : Bool} (ranged : range ≡ tank_in_range l f ds bs) where
   with_2 : range ≡ false → record { number = 2; tonnage = 0 } ≡ measured_tank t u m l f ds bs
   unfolding measured_tank
-  with_2 out = simp (fails ranged out)
+  with_2 out = simp (as_answered ranged out)
 
   module _ (in_range : range ≡ true) {past : Bool} (ended : past ≡ passes_end u l f) where
     with_9 : past ≡ true → record { number = 9; tonnage = 0 } ≡ measured_tank t u m l f ds bs
     unfolding measured_tank
-    with_9 passes = simp (holds ranged in_range, sym ended ∙ passes, and-false)
+    with_9 passes = simp (as_answered ranged in_range, sym ended ∙ passes, and-false)
 
     module _ (inside : past ≡ false) {has : Bool} (measured : has ≡ has_m m) where
       with_29 : has ≡ false → record { number = 29; tonnage = 0 } ≡ measured_tank t u m l f ds bs
       unfolding measured_tank
-      with_29 lacks = simp (holds ranged in_range, sym ended ∙ inside, fails measured lacks)
+      with_29 lacks = simp (as_answered ranged in_range, sym ended ∙ inside, as_answered measured lacks)
 
       module _ (has_m_lem : has ≡ true) {a : Layout} (laid : a ≡ layout_of t u l f) {all : Bool} (counted : all ≡ all_sections a m ds bs) where
         with_3 : all ≡ false → record { number = 3; tonnage = 0 } ≡ measured_tank t u m l f ds bs
         unfolding measured_tank
         with_3 missing =
-            simp (holds ranged in_range, sym ended ∙ inside, holds measured has_m_lem, fails (rw laid at counted) missing)
+            simp (as_answered ranged in_range, sym ended ∙ inside, as_answered measured has_m_lem, as_answered (rw laid at counted) missing)
 
         handed : all ≡ true → Laid a → TankHanded a m ds bs
-        handed none-missing parts = tank_handed t u m l f ds bs laid parts (holds ranged in_range) (holds measured has_m_lem) (holds counted none-missing)
+        handed none-missing parts = tank_handed t u m l f ds bs laid parts (as_answered ranged in_range) (as_answered measured has_m_lem) (as_answered counted none-missing)
 
         accepted : all ≡ true → {found : ℕ} → found ≡ tons (tank_volume a m ds bs)
             → record { number = 0; tonnage = found } ≡ measured_tank t u m l f ds bs
         unfolding measured_tank
         accepted none-missing e =
-            simp (holds ranged in_range, sym ended ∙ inside, holds measured has_m_lem, holds (rw laid at counted) none-missing, rw laid at e)
+            simp (as_answered ranged in_range, sym ended ∙ inside, as_answered measured has_m_lem, as_answered (rw laid at counted) none-missing, rw laid at e)
 
 told : (c : After-doubled-two) → Doubled c.layout_of-a.result c.doubled-two.result
 told c = record { laid = c.layout_of-a.ensures.1; first_are = c.doubled-two.ensures }
@@ -69,7 +69,7 @@ returns-then-not-has_m c =
 
 pub all_sections-requires : goal.all_sections-requires
 all_sections-requires c =
-    (told c, most (has_m_even c.args.m (holds c.has_m.ensures c.if-not-has_m.false)))
+    (told c, most (has_m_even c.args.m (as_answered c.has_m.ensures c.if-not-has_m.false)))
 
 pub returns-then-not-all_sections : goal.returns-then-not-all_sections
 returns-then-not-all_sections c =

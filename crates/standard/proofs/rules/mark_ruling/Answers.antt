@@ -4,7 +4,7 @@ use Prim.Native.Nat.{ℕ}
 use native.Mathlib.Nat.{min-le_right}
 use native.Mathlib.Omega.{arith}
 use lib.ListN.{length, get_or}
-use Rattle.measure.proofs.Laws.Tests.{holds, fails}
+use Rattle.measure.proofs.Laws.Tests.{as_answered}
 use Rattle.spaces.specs.Space.{empty_space}
 use Rattle.standard.specs.Rules.{mark_number, mark_ruling}
 use Rattle.standard.proofs.Laws.Judged.{FoundBy, found_by}
@@ -32,18 +32,18 @@ bounds-spaces-place c = omega (arith, c.used.ensures, min-le_right c.args.count 
 pub returns-then-not-may_take : goal.returns-then-not-may_take
 unfolding mark_number mark_ruling
 returns-then-not-may_take c =
-    rw ((found (goal.at.returns-then-not-may_take c).After-used).there c.if-used-place.false, fails c.may_take.ensures c.if-not-may_take.true) (ap (λ (p : ℕ). record { number = 6; place = p; space = get_or c.args.spaces c.place_of-place.result empty_space }) c.place_of-place.ensures)
+    rw ((found (goal.at.returns-then-not-may_take c).After-used).there c.if-used-place.false, as_answered c.may_take.ensures c.if-not-may_take.true) (ap (λ (p : ℕ). record { number = 6; place = p; space = get_or c.args.spaces c.place_of-place.result empty_space }) c.place_of-place.ensures)
 
 pub returns-then-marked_twice : goal.returns-then-marked_twice
 unfolding mark_number mark_ruling
 returns-then-marked_twice c =
     rw
-    ((found (goal.at.returns-then-marked_twice c).After-used).there c.if-used-place.false, holds c.may_take.ensures c.if-not-may_take.false, sym c.marked_twice.ensures ∙ c.if-marked_twice.true)
+    ((found (goal.at.returns-then-marked_twice c).After-used).there c.if-used-place.false, as_answered c.may_take.ensures c.if-not-may_take.false, sym c.marked_twice.ensures ∙ c.if-marked_twice.true)
     (ap (λ (p : ℕ). record { number = 8; place = p; space = get_or c.args.spaces c.place_of-place.result empty_space }) c.place_of-place.ensures)
 
 pub returns-else-marked_twice : goal.returns-else-marked_twice
 unfolding mark_number mark_ruling
 returns-else-marked_twice c =
     rw
-    ((found (goal.at.returns-else-marked_twice c).After-used).there c.if-used-place.false, holds c.may_take.ensures c.if-not-may_take.false, sym c.marked_twice.ensures ∙ c.if-marked_twice.false)
+    ((found (goal.at.returns-else-marked_twice c).After-used).there c.if-used-place.false, as_answered c.may_take.ensures c.if-not-may_take.false, sym c.marked_twice.ensures ∙ c.if-marked_twice.false)
     (ap (λ (p : ℕ). record { number = 0; place = p; space = get_or c.args.spaces c.place_of-place.result empty_space }) c.place_of-place.ensures)

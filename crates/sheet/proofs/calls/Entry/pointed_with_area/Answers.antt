@@ -5,7 +5,7 @@ use mathlib.Core.Bool.{Bool, true, false, ◌&&◌, ◌||◌}
 use mathlib.Core.List.{List}
 use Rattle.measure.specs.Ends.{end_areas}
 use Rattle.measure.specs.declared.units.Hundredths.{Hundredths}
-use Rattle.measure.proofs.Laws.Tests.{holds, fails, and_left}
+use Rattle.measure.proofs.Laws.Tests.{as_answered, and_left}
 use Rattle.measure.specs.declared.ends.EndAreas.{EndAreas}
 use Rattle.sheet.specs.Ends.{is_pointed, has_ends, pointed_area, pointed_with_area}
 use Rattle.sheet.specs.declared.calls.Entry.{Entry}
@@ -18,11 +18,11 @@ module _ (e : Entry) (L : Hundredths) (ds bs : List ℕ) {some : Bool} (pointed 
   told = pointed_with_area e (end_areas L e.length ds bs)
 
   by_none : some ≡ false → false ≡ told
-  by_none none = sym (unpointed e (end_areas L e.length ds bs) (fails pointed none))
+  by_none none = sym (unpointed e (end_areas L e.length ds bs) (as_answered pointed none))
 
   module _ (one : some ≡ true) {found : EndAreas} (areas : found ≡ end_areas L e.length ds bs) {fore : Bool} (at-fore : fore ≡ pointed_area e.fore_end found.fore) where
     a_U : has_ends e ≡ true
-    a_U = and_left (has_ends e) (is_pointed e.fore_end || is_pointed e.aft_end) (holds pointed one)
+    a_U = and_left (has_ends e) (is_pointed e.fore_end || is_pointed e.aft_end) (as_answered pointed one)
 
     by_fore : fore ≡ true → true ≡ told
     unfolding pointed_with_area

@@ -16,7 +16,7 @@ use Rattle.measure.specs.declared.kinds.Kind.{Kind}
 use Rattle.measure.specs.declared.offsets.Measured.{Measured}
 use Rattle.measure.specs.declared.offsets.MeasuredOffsets.{MeasuredOffsets}
 use Rattle.measure.specs.declared.roundings.Roundings.{Roundings}
-use Rattle.measure.proofs.Laws.Tests.{holds, fails}
+use Rattle.measure.proofs.Laws.Tests.{as_answered}
 use Rattle.measure.proofs.Laws.Refusals.{spliced}
 use Rattle.measure.proofs.Laws.Roundings.{measured_of, roundings_of}
 use Rattle.spaces.proofs.Laws.Cases.{by_test}
@@ -119,7 +119,7 @@ returns-then-not-usable c =
     let a = c.args in
     let hs = a.heights.now in
     let bs = a.breadths.now in
-    let off = fails c.usable.ensures.usable_is c.if-not-usable.true in
+    let off = as_answered c.usable.ensures.usable_is c.if-not-usable.true in
     refusing a.self a.entry hs bs (omega arith)
     (answered_1 a.self (next a.self a.entry hs bs) (from_2 a.self a.entry hs bs) off)
     (rw off)
@@ -128,7 +128,7 @@ returns-then-not-usable c =
 judging : (c : After-judged-number) → let a = c.args in
     Judging a.self a.entry a.heights.now a.breadths.now c.measure_offsets-offsets.result c.m_of.result c.space-x.result c.entry_ruling-ruling.result c.judged-number.result
 judging c = record {
-  on = holds c.usable.ensures.usable_is c.if-not-usable.false;
+  on = as_answered c.usable.ensures.usable_is c.if-not-usable.false;
   offsets_are = c.measure_offsets-offsets.ensures;
   m_is = c.m_of.ensures ∙ ap (λ (k : Kind). m_of k c.args.heights.now) c.kind_of.ensures;
   made_of = c.space-x.ensures;

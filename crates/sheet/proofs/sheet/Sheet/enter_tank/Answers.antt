@@ -7,7 +7,7 @@ use lib.Dec.{eqb}
 use Rattle.measure.specs.Refusals.{first_of}
 use Rattle.measure.specs.Tanks.{tank_in_range}
 use Rattle.measure.specs.declared.offsets.Measured.{Measured}
-use Rattle.measure.proofs.Laws.Tests.{holds, fails}
+use Rattle.measure.proofs.Laws.Tests.{as_answered}
 use Rattle.measure.proofs.Laws.Tanks.{judged_by_number}
 use Rattle.standard.specs.Rules.{entry_ruling}
 use Rattle.standard.specs.Tanks.{under_deck_with, tank_tests, tank_number}
@@ -82,13 +82,13 @@ returns-then-not-usable c =
     let a = c.args in
     let ds = a.depths.now in
     let bs = a.breadths.now in
-    let off = fails c.usable.ensures.usable_is c.if-not-usable.true in
+    let off = as_answered c.usable.ensures.usable_is c.if-not-usable.true in
     answering a.self a.tank ds bs (answered_1 a.self (next a.self a.tank ds bs) (from_2 a.self a.tank ds bs) off) (rw off)
 
 judging : (c : After-judged-number) → let a = c.args in
     Judging a.self a.tank a.depths.now a.breadths.now c.measured-measured.result c.space-x.result c.tank_ruling-ruling.result c.judged-number.result
 judging c = record {
-  on = holds c.usable.ensures.usable_is c.if-not-usable.false;
+  on = as_answered c.usable.ensures.usable_is c.if-not-usable.false;
   is = c.measured-measured.ensures;
   made_of = c.space-x.ensures;
   ruled = c.tank_ruling-ruling.ensures;

@@ -3,7 +3,7 @@ use mathlib.Core.Path.{◌≡◌, sym, ap, ◌∙◌}
 use mathlib.Core.Bool.{Bool, true, false, not, ◌&&◌}
 use mathlib.Core.List.{[], ◌∷◌}
 use Prim.Native.Nat.{ℕ, ◌≤◌}
-use Rattle.measure.proofs.Laws.Tests.{holds, fails}
+use Rattle.measure.proofs.Laws.Tests.{as_answered}
 use borrow.Author.Tests.{lt-ltb, le-ltb, ne_eqb, eq-eqb}
 use lib.Dec.{eqb, ltb}
 use Rattle.measure.specs.Refusals.{first_of}
@@ -35,7 +35,7 @@ pub returns-then-not-usable : goal.returns-then-not-usable
 unfolding reported
 returns-then-not-usable c =
     let a = c.args in
-    let off = not_open_lem a.self (from_2 a.self a.justified) (fails c.usable.ensures.usable_is c.if-not-usable.true) in
+    let off = not_open_lem a.self (from_2 a.self a.justified) (as_answered c.usable.ensures.usable_is c.if-not-usable.true) in
     c.no_figures.ensures ∙ ap (λ (n : ℕ). told n a.self) (sym off)
 
 pub returns-then-justified-gt1 : goal.returns-then-justified-gt1
@@ -43,7 +43,7 @@ unfolding reported
 returns-then-justified-gt1 c =
     let a = c.args in
     let j = a.justified in
-    let on = is_open a.self (from_2 a.self j) (holds c.usable.ensures.usable_is c.if-not-usable.false) in
+    let on = is_open a.self (from_2 a.self j) (as_answered c.usable.ensures.usable_is c.if-not-usable.false) in
     c.no_figures-then-justified-gt1.ensures
     ∙ ap (λ (n : ℕ). told n a.self) (sym (on ∙ applies (ltb 1 j) 2 (from_13 a.self j) (lt-ltb 1 j c.if-justified-gt1.true)))
 
@@ -56,7 +56,7 @@ module _ (d : After-reckon-r) where
   j = d.args.justified
 
   on : usable sh ≡ true
-  on = holds d.usable.ensures.usable_is d.if-not-usable.false
+  on = as_answered d.usable.ensures.usable_is d.if-not-usable.false
 
   lengths_are : d.reckon-r.result.lengths ≡ sum_of Lengths (standing sh)
   lengths_are = ap (λ (r : Reckoning). r.lengths) d.reckon-r.ensures

@@ -1,7 +1,7 @@
 -- `Sheet::mark` meets its contract: the tests of 1, 2, 5, 6 and 8, and the mark made and noted.
 use mathlib.Core.Path.{◌≡◌, sym, ap, ◌∙◌}
 use Prim.Native.Nat.{ℕ}
-use Rattle.measure.proofs.Laws.Tests.{holds, fails}
+use Rattle.measure.proofs.Laws.Tests.{as_answered}
 use borrow.Author.Tests.{lt-ltb, le-ltb}
 use Rattle.sheet.specs.Sheet.{standing, usable}
 use Rattle.sheet.specs.declared.changes.Change.{Change}
@@ -24,7 +24,7 @@ returns-then-not-usable c =
     let a = c.args in
     let sh = a.self in
     answered_1 sh (changed (marking sh a.id a.standing) sh) ((ltb greatest_standing a.standing, 2) ∷ mark_tests (standing sh) a.id a.standing)
-    (fails c.usable.ensures.usable_is c.if-not-usable.true)
+    (as_answered c.usable.ensures.usable_is c.if-not-usable.true)
 
 pub returns-then-standing-gt-GREATEST_STANDING : goal.returns-then-standing-gt-GREATEST_STANDING
 unfolding marked
@@ -32,7 +32,7 @@ returns-then-standing-gt-GREATEST_STANDING c =
     let a = c.args in
     let sh = a.self in
     answered_2 sh (changed (marking sh a.id a.standing) sh) (ltb greatest_standing a.standing) (mark_tests (standing sh) a.id a.standing)
-    (holds c.usable.ensures.usable_is c.if-not-usable.false)
+    (as_answered c.usable.ensures.usable_is c.if-not-usable.false)
     (lt-ltb greatest_standing a.standing c.if-standing-gt-GREATEST_STANDING.true)
 
 -- the number is the definition's, and the change that of the space found
@@ -52,7 +52,7 @@ ruled : (c : After-mark_ruling-ruling) → let sh = c.args.self in
 ruled c =
     let sh = c.args.self in
     let st = c.args.standing in
-    let on = holds c.usable.ensures.usable_is c.if-not-usable.false in
+    let on = as_answered c.usable.ensures.usable_is c.if-not-usable.false in
     within sh (ltb greatest_standing st) (mark_tests (standing sh) c.args.id st) on (le-ltb greatest_standing st c.if-standing-gt-GREATEST_STANDING.false)
     ∙ sym (number_is c)
 

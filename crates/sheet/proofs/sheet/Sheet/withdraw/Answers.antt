@@ -3,7 +3,7 @@ use mathlib.Core.Path.{◌≡◌, sym, ap, ◌∙◌}
 use mathlib.Core.Bool.{not}
 use mathlib.Core.List.{◌∷◌}
 use Prim.Native.Nat.{ℕ}
-use Rattle.measure.proofs.Laws.Tests.{holds, fails}
+use Rattle.measure.proofs.Laws.Tests.{as_answered}
 use Rattle.sheet.specs.Sheet.{standing, usable}
 use Rattle.sheet.specs.declared.changes.Change.{Change}
 use Rattle.standard.specs.Rules.{withdraw_tests, withdraw_number, withdraw_ruling}
@@ -20,7 +20,7 @@ unfolding withdrawn
 returns-then-not-usable c =
     let a = c.args in
     let sh = a.self in
-    answered_1 sh (changed (withdrawal sh a.id) sh) (withdraw_tests (standing sh) a.id) (fails c.usable.ensures.usable_is c.if-not-usable.true)
+    answered_1 sh (changed (withdrawal sh a.id) sh) (withdraw_tests (standing sh) a.id) (as_answered c.usable.ensures.usable_is c.if-not-usable.true)
 
 -- the number is the definition's, and the change that of the space found
 number_is : (c : After-withdraw_ruling-ruling) → c.withdraw_ruling-ruling.result.number ≡ first_of (withdraw_tests (standing c.args.self) c.args.id)
@@ -36,7 +36,7 @@ ruled : (c : After-withdraw_ruling-ruling) → let sh = c.args.self in
     first_of ((not (usable sh), 1) ∷ withdraw_tests (standing sh) c.args.id) ≡ c.withdraw_ruling-ruling.result.number
 ruled c =
     let tests = withdraw_tests (standing c.args.self) c.args.id in
-    is_open c.args.self tests (holds c.usable.ensures.usable_is c.if-not-usable.false) ∙ sym (number_is c)
+    is_open c.args.self tests (as_answered c.usable.ensures.usable_is c.if-not-usable.false) ∙ sym (number_is c)
 
 -- what the ruling says
 judged : (c : After-withdraw_ruling-ruling) → let sh = c.args.self in

@@ -5,7 +5,7 @@ use Rattle.std.proofs.lemmas.List.{take-append-le}
 use Rattle.std.proofs.KnownBytes.{Consumes-trans}
 use Rattle.std.specs.Io.KnownBytes.{Consumes}
 use borrow.Rule.Slice.PartMut.{put_mid, post_of}
-use Rattle.sheetlist.proofs.read_full.Goals as goal
+use Rattle.input.proofs.read_full.Goals as goal
 
 take_put_mid_more : (at room n : ℕ) (xs ys : List ℕ) → at ≤ length xs → n ≤ length ys
     → take at xs ++ take n ys ≡ take (at + n) (put_mid at room xs ys)
