@@ -42,7 +42,7 @@ known c =
     }
 
 -- the sheet is as long as its count says, within the file
-module _ (file : List ℕ) (t : Trailer) (f : Form) (k : Known file t f) (n : ℕ) (size : n ≡ sheet_size f t.count) where
+module _ {file : List ℕ} {t : Trailer} {f : Form} (k : Known file t f) {n : ℕ} (size : n ≡ sheet_size f t.count) where
   sized : n ≡ sheet_size (last_form file) (last_trailer file).count
   sized = size ∙ ap₂ (λ (f : Form) (t : Trailer). sheet_size f t.count) k.form k.trailer
 
@@ -59,14 +59,14 @@ sheet_size-requires c =
 pub overflow_sub-start : goal.overflow_sub-start
 overflow_sub-start c =
     let k = known (goal.at.overflow_sub-start c).After-form_of-form in
-    omega (arith, fits_in c.args.file.now c.last_trailer-trailer.result c.form_of-form.result k c.sheet_size.result c.sheet_size.ensures)
+    omega (arith, fits_in k c.sheet_size.ensures)
 
 pub read_records-spaces-requires : goal.read_records-spaces-requires
 read_records-spaces-requires c =
     let k = known (goal.at.read_records-spaces-requires c).After-form_of-form in
     let all = ap length c.part_from.ensures ∙ length-drop (length c.args.file.now - c.sheet_size.result) c.args.file.now in
     record {
-      count_bound = (k.few, omega (arith, all, fits_in c.args.file.now c.last_trailer-trailer.result c.form_of-form.result k c.sheet_size.result c.sheet_size.ensures, c.sheet_size.ensures));
+      count_bound = (k.few, omega (arith, all, fits_in k c.sheet_size.ensures, c.sheet_size.ensures));
       narrow = rw c.form_of-form.ensures (narrow_record c.last_trailer-trailer.result.form);
     }
 
@@ -74,7 +74,7 @@ pub read_vessel-vessel-requires : goal.read_vessel-vessel-requires
 read_vessel-vessel-requires c =
     let k = known (goal.at.read_vessel-vessel-requires c).After-form_of-form in (
       rw c.form_of-form.ensures (narrow_vessel c.last_trailer-trailer.result.form),
-      omega (arith, fits_in c.args.file.now c.last_trailer-trailer.result c.form_of-form.result k c.sheet_size.result c.sheet_size.ensures, c.sheet_size.ensures),
+      omega (arith, fits_in k c.sheet_size.ensures, c.sheet_size.ensures),
     )
 
 -- what resuming the records of the last sheet tells
@@ -85,7 +85,7 @@ judged_last c k =
     let f = c.form_of-form.result in
     let count = c.last_trailer-trailer.result.count in
     let read = c.read_records-spaces.ensures ∙ ap (λ (bytes : List ℕ). each_read_as f (records_in f count bytes)) c.part_from.ensures in
-    resumed_last c.args.file.now k.ends_in_sheet _ _ _ _ _ _ k.trailer k.form (starts c.args.file.now c.last_trailer-trailer.result c.form_of-form.result k c.sheet_size.result c.sheet_size.ensures) (c.read_vessel-vessel.ensures ∙ ap (λ (g : Form). vessel_in g c.args.file.now) k.form) read c.resume-resumed.ensures
+    resumed_last c.args.file.now k.ends_in_sheet _ _ _ _ _ _ k.trailer k.form (starts k c.sheet_size.ensures) (c.read_vessel-vessel.ensures ∙ ap (λ (g : Form). vessel_in g c.args.file.now) k.form) read c.resume-resumed.ensures
 
 pub returns-then-resumed-ne0 : goal.returns-then-resumed-ne0
 returns-then-resumed-ne0 c =
@@ -100,4 +100,4 @@ returns c =
     let k = known (goal.at.returns c).After-form_of-form in
     let e = judged_last (goal.at.returns c).After-resume-resumed k in
     let none = sym e.0 ∙ c.if-resumed-ne0.false in
-    c.judged.ensures ∙ read_judged c.args.file.now _ _ _ (e.1 none) k.trailer (starts c.args.file.now c.last_trailer-trailer.result c.form_of-form.result k c.sheet_size.result c.sheet_size.ensures) k.ends_in_sheet none
+    c.judged.ensures ∙ read_judged c.args.file.now _ _ _ (e.1 none) k.trailer (starts k c.sheet_size.ensures) k.ends_in_sheet none

@@ -23,6 +23,22 @@ use Rattle.std.proofs.Common.{rules}
 use Rattle.dayfile.proofs.writing.store.Goals.{After-too_little_room-short}
 use Rattle.dayfile.proofs.writing.store.Goals as goal
 
+-- a sheet of n spaces has room from a place on, in the form f, which is g
+record Room (f g : Form) (at n : ℕ) (buffer : List ℕ) : Type 0 where
+  form : f ≡ g
+  few : n ≤ 200
+  from_place : at ≤ length buffer
+  enough : sheet_size f n ≤ length buffer - at
+
+-- its records' bytes are counted, and what stands behind them has room too
+ends : {f g : Form} {at n r : ℕ} {buffer : List ℕ} → Room f g at n buffer → (r ≡ record_size f) × (r ≤ most_record)
+    → (r * n ≤ most_record * 200) × (at + r * n + end_size g ≤ length buffer)
+ends {f} {n} {r} h size =
+    let many : r * n ≡ record_size f * n = ap (λ (m : ℕ). m * n) size.0 in (
+      le_trans (mul-le-mul_right n size.1) (mul-le-mul_left most_record h.few),
+      omega (arith, many, h.from_place, h.enough, ap end_size h.form),
+    )
+
 -- 20, 15 and 21, as the code looks for them
 module _ (c : After-too_little_room-short) where
   abbrev t : Trailer
@@ -75,6 +91,9 @@ module _ (c : After-too_little_room-short) where
     from_place : at ≤ length buffer
     from_place = omega (arith, enough, size_is)
 
+    room : Room c.form_of-form.result (form_of t.form) at t.count buffer
+    room = record { form = form_is; few = few; from_place = from_place; enough = omega (arith, enough, c.sheet_size-size.ensures) }
+
 -- what comes first in a refusal is found among the tests that the code has made on the way to it
 pub returns-then-loses : goal.returns-then-loses
 returns-then-loses c =
@@ -108,52 +127,44 @@ slice_bounds-write_records-start c = omega (arith, from_place (goal.at.slice_bou
 
 pub write_records-requires : goal.write_records-requires
 write_records-requires c =
+    let p = (goal.at.write_records-requires c).After-too_little_room-short in
     let left = c.if-short.false in (
       search rules,
-      simp (length-take, length-drop) (omega (arith, enough (goal.at.write_records-requires c).After-too_little_room-short left, from_place (goal.at.write_records-requires c).After-too_little_room-short left, c.sheet_size-size.ensures)),
-    )
-
--- n records' bytes are counted, and what stands behind them has room
-ends : (f g : Form) (at n size r : ℕ) (buffer : List ℕ) → f ≡ g → n ≤ 200 → size ≤ length buffer - at → at ≤ length buffer → size ≡ sheet_size f n
-    → r ≡ record_size f → r ≤ most_record → (r * n ≤ most_record * 200) × (at + r * n + end_size g ≤ length buffer)
-ends f g at n size r buffer form few enough from_place size_is record_is most =
-    let many : r * n ≡ record_size f * n = ap (λ (m : ℕ). m * n) record_is in (
-      le_trans (mul-le-mul_right n most) (mul-le-mul_left most_record few),
-      omega (arith, many, enough, from_place, size_is, ap end_size form),
+      simp (length-take, length-drop) (omega (arith, enough p left, from_place p left, c.sheet_size-size.ensures)),
     )
 
 pub overflow_mul-end : goal.overflow_mul-end
-overflow_mul-end c = record { fits = omega (arith, (ends c.form_of-form.result (form_of c.args.trailer.form) c.args.at c.args.trailer.count c.sheet_size-size.result c.record_size.result c.args.buf.now (form_is (goal.at.overflow_mul-end c).After-too_little_room-short) (few (goal.at.overflow_mul-end c).After-too_little_room-short) (enough (goal.at.overflow_mul-end c).After-too_little_room-short c.if-short.false) (from_place (goal.at.overflow_mul-end c).After-too_little_room-short c.if-short.false) c.sheet_size-size.ensures c.record_size.ensures.0 c.record_size.ensures.1).0) }
+overflow_mul-end c = record { fits = omega (arith, (ends (room (goal.at.overflow_mul-end c).After-too_little_room-short c.if-short.false) c.record_size.ensures).0) }
 
 pub overflow_add-end : goal.overflow_add-end
-overflow_add-end c = let h = (ends c.form_of-form.result (form_of c.args.trailer.form) c.args.at c.args.trailer.count c.sheet_size-size.result c.record_size.result c.args.buf.now (form_is (goal.at.overflow_add-end c).After-too_little_room-short) (few (goal.at.overflow_add-end c).After-too_little_room-short) (enough (goal.at.overflow_add-end c).After-too_little_room-short c.if-short.false) (from_place (goal.at.overflow_add-end c).After-too_little_room-short c.if-short.false) c.sheet_size-size.ensures c.record_size.ensures.0 c.record_size.ensures.1).1 in search rules
+overflow_add-end c = let h = (ends (room (goal.at.overflow_add-end c).After-too_little_room-short c.if-short.false) c.record_size.ensures).1 in search rules
 
 pub slice_bounds-write_end-count : goal.slice_bounds-write_end-count
-slice_bounds-write_end-count c = let h = (ends c.form_of-form.result (form_of c.args.trailer.form) c.args.at c.args.trailer.count c.sheet_size-size.result c.record_size.result c.args.buf.now (form_is (goal.at.slice_bounds-write_end-count c).After-too_little_room-short) (few (goal.at.slice_bounds-write_end-count c).After-too_little_room-short) (enough (goal.at.slice_bounds-write_end-count c).After-too_little_room-short c.if-short.false) (from_place (goal.at.slice_bounds-write_end-count c).After-too_little_room-short c.if-short.false) c.sheet_size-size.ensures c.record_size.ensures.0 c.record_size.ensures.1).1 in search rules
+slice_bounds-write_end-count c = let h = (ends (room (goal.at.slice_bounds-write_end-count c).After-too_little_room-short c.if-short.false) c.record_size.ensures).1 in search rules
 
 pub slice_bounds-write_end-start : goal.slice_bounds-write_end-start
-slice_bounds-write_end-start c = let h = (ends c.form_of-form.result (form_of c.args.trailer.form) c.args.at c.args.trailer.count c.sheet_size-size.result c.record_size.result c.args.buf.now (form_is (goal.at.slice_bounds-write_end-start c).After-too_little_room-short) (few (goal.at.slice_bounds-write_end-start c).After-too_little_room-short) (enough (goal.at.slice_bounds-write_end-start c).After-too_little_room-short c.if-short.false) (from_place (goal.at.slice_bounds-write_end-start c).After-too_little_room-short c.if-short.false) c.sheet_size-size.ensures c.record_size.ensures.0 c.record_size.ensures.1).1 in search rules
+slice_bounds-write_end-start c = let h = (ends (room (goal.at.slice_bounds-write_end-start c).After-too_little_room-short c.if-short.false) c.record_size.ensures).1 in search rules
 
 pub write_end-requires : goal.write_end-requires
-write_end-requires c = let h = (ends c.form_of-form.result (form_of c.args.trailer.form) c.args.at c.args.trailer.count c.sheet_size-size.result c.record_size.result c.args.buf.now (form_is (goal.at.write_end-requires c).After-too_little_room-short) (few (goal.at.write_end-requires c).After-too_little_room-short) (enough (goal.at.write_end-requires c).After-too_little_room-short c.if-short.false) (from_place (goal.at.write_end-requires c).After-too_little_room-short c.if-short.false) c.sheet_size-size.ensures c.record_size.ensures.0 c.record_size.ensures.1).1 in search rules
+write_end-requires c = let h = (ends (room (goal.at.write_end-requires c).After-too_little_room-short c.if-short.false) c.record_size.ensures).1 in search rules
 
 pub returns : goal.returns
 returns c =
+    let p = (goal.at.returns c).After-too_little_room-short in
     let left = c.if-short.false in
-    let f = c.form_of-form in
-    let n = c.args.trailer.count in
+    let n = (t p).count in
     let w =
-    stored_whole c.args.trailer c.args.deductions_pass c.args.vessel (take c.args.trailer.count c.args.spaces) c.args.at c.args.buf.now _ _ _ _ _
-    (sym (loses_is (goal.at.returns c).After-too_little_room-short) ∙ c.if-loses.false)
-    (sym (short_is (goal.at.returns c).After-too_little_room-short) ∙ left)
+    stored_whole (t p) (pass p) (vessel p) (xs p) (at p) (buffer p) _ _ _ _ _
+    (sym (loses_is p) ∙ c.if-loses.false)
+    (sym (short_is p) ∙ left)
     c.if-deductions_pass.false
-    (length-take-le n c.args.spaces (omega (arith, full (goal.at.returns c).After-too_little_room-short, few (goal.at.returns c).After-too_little_room-short)))
-    (size_is (goal.at.returns c).After-too_little_room-short)
-    (ap (λ (r : ℕ). c.args.at + r * n) c.record_size.ensures.0 ∙ ap (λ (g : Form). c.args.at + record_size g * n) (form_is (goal.at.returns c).After-too_little_room-short))
-    (from_place (goal.at.returns c).After-too_little_room-short left)
-    (enough (goal.at.returns c).After-too_little_room-short left)
+    (length-take-le n (row p) (omega (arith, full p, few p)))
+    (size_is p)
+    (ap (λ (r : ℕ). at p + r * n) c.record_size.ensures.0 ∙ ap (λ (g : Form). at p + record_size g * n) (form_is p))
+    (from_place p left)
+    (enough p left)
     refl
-    (rw (form_is (goal.at.returns c).After-too_little_room-short) at c.write_records.ensures)
+    (rw (form_is p) at c.write_records.ensures)
     c.write_end.ensures
     in
     record { answer = w.0; buffer = w.1 }
