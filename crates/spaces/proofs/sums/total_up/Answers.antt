@@ -10,9 +10,6 @@ use Rattle.spaces.proofs.Laws.Sums.{none_yet, one_more, all_totals, few}
 use Rattle.std.proofs.Common.{rules}
 use Rattle.spaces.proofs.sums.total_up.Goals as goal
 
-pub used-n-requires : goal.used-n-requires
-used-n-requires c = tt
-
 pub loop-i-init : goal.loop-i-init
 loop-i-init c = (
   omega arith,
