@@ -7,7 +7,7 @@
  * A sheet's fields are for the calls alone: a sheet comes from fummidrake_open, fummidrake_read or a call, and one that is all zeros
  * is not open.
  *
- * The archive is for x86-64 of level v2 or later and wants memcpy, memmove and memset, nothing else: no other call of a C library, no
+ * The archive is for x86-64 of level v2 or later and wants memcpy and memset, nothing else: no other call of a C library, no
  * heap, no input or output. How much stack a call takes stands below, beside FUMMIDRAKE_STACK.
  *
  * Lengths, heights, depths and breadths are in hundredths of a foot, tonnages in hundredths of a ton.
@@ -62,15 +62,15 @@
 /* The stack that a call takes, by value or in place, in bytes, with the sheet that goes in and the answer that comes back: at most so
  * many, measured with a full sheet of 200 spaces, eight deep, and 64 changes (tools/stack.c). The first is the greatest of them. */
 #define FUMMIDRAKE_STACK FUMMIDRAKE_STACK_LIST
-#define FUMMIDRAKE_STACK_OPEN 8000
-#define FUMMIDRAKE_STACK_ENTER 60000
-#define FUMMIDRAKE_STACK_ENTER_TANK 49000
-#define FUMMIDRAKE_STACK_WITHDRAW 49000
-#define FUMMIDRAKE_STACK_MARK 90000
-#define FUMMIDRAKE_STACK_UNDO 20000
-#define FUMMIDRAKE_STACK_REDO 19000
+#define FUMMIDRAKE_STACK_OPEN 6000
+#define FUMMIDRAKE_STACK_ENTER 29000
+#define FUMMIDRAKE_STACK_ENTER_TANK 29000
+#define FUMMIDRAKE_STACK_WITHDRAW 23000
+#define FUMMIDRAKE_STACK_MARK 39000
+#define FUMMIDRAKE_STACK_UNDO 17000
+#define FUMMIDRAKE_STACK_REDO 17000
 #define FUMMIDRAKE_STACK_COUNTS 12000
-#define FUMMIDRAKE_STACK_REPORT 15000
+#define FUMMIDRAKE_STACK_REPORT 12000
 #define FUMMIDRAKE_STACK_IS_OPEN 6000
 #define FUMMIDRAKE_STACK_TONNAGE_LENGTH 6000
 #define FUMMIDRAKE_STACK_VESSEL 6000
@@ -81,10 +81,10 @@
 #define FUMMIDRAKE_STACK_LAY_OUT 1000
 #define FUMMIDRAKE_STACK_SECTION_STATION 1000
 #define FUMMIDRAKE_STACK_WRITE 18000
-#define FUMMIDRAKE_STACK_READ 95000
-#define FUMMIDRAKE_STACK_READ_BEFORE 95000
-#define FUMMIDRAKE_STACK_MOVE_LAST 90000
-#define FUMMIDRAKE_STACK_LIST 113000
+#define FUMMIDRAKE_STACK_READ 82000
+#define FUMMIDRAKE_STACK_READ_BEFORE 82000
+#define FUMMIDRAKE_STACK_MOVE_LAST 77000
+#define FUMMIDRAKE_STACK_LIST 111000
 
 /* Has the compiler warn where an answer is dropped, if it can: a sheet that is not kept is lost, and a refusal not looked at. */
 #if defined(__GNUC__)

@@ -5,7 +5,7 @@ refused only because its proof no longer fits the code's shape. What is said fir
 Run at the root of the project, on what `rt ci` said, which `make proofs` keeps: python3 tools/edits.py [LOG]
 
 Of a goal that is new, and for which no values are found, nothing says whether it is false or has lost its answer. It is taken for a
-fact, but where the proof files of its module answer it under a name with another comparison in it.
+fact, but where the proof file of its function answers it under a name with another comparison in it.
 """
 import re
 import sys
@@ -17,14 +17,18 @@ BAD = re.compile(r', \d+ bad\b')
 TRIED = re.compile(r'^rt: must-fail (\w+/[\w.-]+\.edit): (.*)', re.M)
 REFUSED = 'refused, as it must be: '
 SHAPE = re.compile(r'which was rejected, w|has no `|has no field|is not in scope|was not admitted|expected type `goal\.|has type `Lts\.')
-UNANSWERED = re.compile(r'note: src/(\w+)\.rt:\d+:\d+: it is not proved .*\(`([^`]+)`\)(?:; `search` gave up.*)?')
+UNANSWERED = re.compile(r'note: (src/\w+\.rt):(\d+):\d+: it is not proved .*\(`([^`]+)`\)(?:; `search` gave up.*)?')
 ANSWER = re.compile(r'^(?:pub )?([a-z]\S*) :(?= |$)', re.M)
+FUNCTION = re.compile(r'\bfn (\w+)')
 COMPARISON = re.compile(r'(?<=-)(?:lt|le|gt|ge|eq|ne)(?![a-z])')
 
 
-def lost_answer(crate: Path, module: str, goal: str) -> bool:
-    """Whether the module's proof files answer a goal only under a name with another comparison in it."""
-    answers = {name for path in crate.glob('proofs/**/Answers.antt') if module in ('lib', *path.parts) for name in ANSWER.findall(path.read_text())}
+def lost_answer(crate: Path, source: str, line: int, goal: str) -> bool:
+    """Whether the proof file of the function at a line answers a goal only under a name with another comparison in it."""
+    lines = (crate / source).read_text().splitlines()
+    before, behind = (FUNCTION.findall('\n'.join(part)) for part in (lines[:line], lines[line:]))
+    function = (before[-1:] + behind[:1])[0]
+    answers = {name for path in crate.glob(f'proofs/**/{function}/Answers.antt') for name in ANSWER.findall(path.read_text())}
     return goal not in answers and COMPARISON.sub('', goal) in {COMPARISON.sub('', name) for name in answers}
 
 
@@ -34,7 +38,7 @@ def fault(edit: Path, said: str) -> str:
         return said
     error = said.removeprefix(REFUSED)
     goal = UNANSWERED.fullmatch(error)
-    if SHAPE.search(error) or (goal and lost_answer(edit.parent.parent, goal[1], goal[2])):
+    if SHAPE.search(error) or (goal and lost_answer(edit.parent.parent, goal[1], int(goal[2]), goal[3])):
         return f'refused for the shape of its proof alone: {error}'
     return ''
 

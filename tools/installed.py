@@ -1,7 +1,7 @@
 #!/usr/bin/env python3
 """Fails where what the maker of a case takes home isn't what the header and the README say of it.
 
-- The archive wants memcpy, memmove and memset, nothing else, and its names are the header's calls.
+- The archive wants memcpy and memset, nothing else, and its names are the header's calls.
 - The header compiles alone, without a warning, as C11, C99 and C++ (where the compiler has it); structs laid out otherwise are refused,
   and a dropped answer is warned of. The module for Rust warns of one too, and refuses a sheet that a call has taken.
 - `make install` brings header, archive and pkg-config file of this version, and by its flags the example in C compiles and prints
@@ -19,7 +19,7 @@ from typing import Iterator
 
 ARCHIVE = Path('target/staticlib/libfummidrake.a')
 HEADER = Path('include/fummidrake.h')
-WANTED = {'memcpy', 'memmove', 'memset'}
+WANTED = {'memcpy', 'memset'}
 PREFIX = Path('target/installed').absolute()
 PACKAGE = PREFIX / 'lib/pkgconfig/fummidrake.pc'
 ANSWERS = Path('examples/answers.txt')

@@ -24,24 +24,24 @@ WITH_A_READER = {'input::read_full'}
 MODULE = re.compile(r'^pub mod (\w+);', re.M)
 EXPORTED = re.compile(r'^pub use (\w+)::(?:(\w+)|\{([^}]*)\});', re.M)
 TYPE = re.compile(r'^(?:pub )?(?:struct|enum) (\w+)', re.M)
-IMPL = re.compile(r'^impl (\w+) \{$.*?^\}$', re.M | re.S)
+IMPL = re.compile(r'^impl(?:<[^>]*>)? (\w+)(?:<[^>]*>)? \{$.*?^\}$', re.M | re.S)
 HEAD = re.compile(r'^[ \t]*pub (?:extern "C" )?fn (\w+)(?:<[^>]*>)?\(', re.M)
 PARAMETER = re.compile(r'(?:^|,)\s*(?:mut )?(self\b|\w+\s*:[^,]*)')
 LENT = re.compile(r"&(?:'\w+ )?mut ")
-PART = re.compile(r'\s*->\s*&')
 BODY = re.compile(r'^[ \t]*\{$', re.M)
 ENSURES = re.compile(r'^[ \t]*ensures(?: \w+)? \{\s*(.*)', re.M)
 AND_MORE = re.compile(r'\(result(?:\.now)? ≡')
+SEEN = re.compile(r'result((?:\.\w+)*\.now) ≡')
 
 
 @dataclass
 class Function:
-    """A public function: where the check keeps its contract, which parameters are lent to change, whether it answers a part of a
-    slice, and whether its contract says more than what the answer equals."""
+    """A public function: where the check keeps its contract, which parameters are lent to change, what is seen of an answer that holds
+    a part of a slice (`.now`, `.spaces.now`), and whether its contract says more than what the answer equals."""
     crate: str
     path: str
     lent: list[bool]
-    part: bool
+    seen: str
     and_more: bool
 
     def name(self) -> str:
@@ -51,7 +51,7 @@ class Function:
     def row(self) -> str:
         """The statement and its proof, as `rt fmt` leaves them."""
         ended, reads = f"{self.crate}'.{self.path}.ended", f'{self.crate}.{self.path}.Reads'
-        says, view = ('OneBy', ' (λ lives. (λ x. x.now))') if self.part else ('One', '')
+        says, view = ('OneBy', f' (λ lives. (λ x. x{self.seen}))') if self.seen else ('One', '')
         return (f'pub {self.name()} :\n    {says} {ended} {reads}.Asked {reads}.Learnt{view}\n'
                 f'{self.name()} _ ={self.proof()}\n')
 
@@ -96,7 +96,8 @@ def public_functions(crate: str) -> Iterator[Function]:
             lent = [bool(LENT.search(each)) for each in PARAMETER.findall(text[head.end():end - 1])]
             contract = text[end:BODY.search(text, end).start()]
             ensured = ENSURES.findall(contract)
-            yield Function(crate, path, lent, bool(PART.match(contract)), len(ensured) > 1 or any(map(AND_MORE.match, ensured)))
+            seen = next((said[1] for said in map(SEEN.match, ensured) if said), '')
+            yield Function(crate, path, lent, seen, len(ensured) > 1 or any(map(AND_MORE.match, ensured)))
 
 
 def libraries() -> list[str]:

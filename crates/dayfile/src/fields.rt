@@ -11,29 +11,27 @@ pub(crate) fn put_fields(buf: &mut [u8], widths: &[u8], numbers: &[u64])
     requires { (length widths.now ≡ length numbers.now) × (size widths.now ≤ length buf.old) }
     ensures { buf.new ≡ sets buf.old 0 (encoded widths.now numbers.now) }
 {
-    let mut i: usize = 0;
     let mut at: usize = 0;
-    while i < widths.len() {
-        let width = widths[i] as usize;
-        put_number(buf, at, width, numbers[i]);
-        at += width;
-        i += 1;
+    for (width, number) in widths.iter().zip(numbers) {
+        let end = at + usize::from(*width);
+        put_number(&mut buf[at..end], *number);
+        at = end;
     }
 }
 
-// Reads the numbers of fields of these widths from the front of some bytes.
+// Reads the numbers of fields of these widths from the front of some bytes. The widths go by place: after a zip with `iter_mut` what the
+// numbers hold is a name of Rattle's own.
+#[tactic(auto, using(crate::proofs::Laws::Fields::narrow_at))]
 pub(crate) fn get_fields(bytes: &[u8], widths: &[u8], numbers: &mut [u64])
     requires widths_len { (length widths.now ≡ length numbers.old) × (size widths.now ≤ length bytes.now) }
     requires narrow { Narrow widths.now }
     ensures { numbers.new ≡ decoded widths.now bytes.now }
 {
-    let mut i: usize = 0;
     let mut at: usize = 0;
-    while i < widths.len() {
-        let width = widths[i] as usize;
-        numbers[i] = number_at(bytes, at, width);
-        at += width;
-        i += 1;
+    for (i, number) in numbers.iter_mut().enumerate() {
+        let end = at + usize::from(widths[i]);
+        *number = number_at(&bytes[at..end]);
+        at = end;
     }
 }
 
@@ -42,16 +40,6 @@ pub(crate) fn in_ranges(numbers: &[u64], least: &[u64], greatest: &[u64]) -> boo
     requires { (length numbers.now ≡ length least.now) × (length numbers.now ≡ length greatest.now) }
     ensures { result ≡ in_ranges least.now greatest.now numbers.now }
 {
-    let mut i: usize = 0;
-    while i < numbers.len() {
-        let number = numbers[i];
-        if number < least[i] {
-            return false;
-        }
-        if greatest[i] < number {
-            return false;
-        }
-        i += 1;
-    }
-    true
+    let mut ranged = numbers.iter().zip(least.iter().zip(greatest));
+    ranged.all(|(number, (least, greatest))| least <= number && number <= greatest)
 }

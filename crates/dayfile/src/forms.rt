@@ -2,8 +2,10 @@
 // holds only 0. Nothing else in the library asks which form it has before it.
 ghost use Rattle.std.specs.Prelude.{◌≡◌};
 ghost use Rattle.dayfile.specs.Forms.{is_form, form_of, form_told, greatest_in, lost as lost_in};
+ghost use Rattle.dayfile.specs.Handed.{unless_0};
 
-// A form: the widths of the fields in which forms differ, and the byte of the trailer that tells it.
+// A form: the widths of the fields in which forms differ, and the byte of the trailer that tells it. No ghost field says how narrow they
+// are: the definitions build forms of their widths alone (specs/Forms `form1`, `form2`), and it would ask its proof of them.
 #[derive(Clone, Copy)]
 pub struct Form {
     // Of a record's deck.
@@ -37,51 +39,44 @@ const FORM_2: Form = Form {
 pub(crate) fn is_form(number: u8) -> bool
     ensures { result ≡ is_form number }
 {
-    if number < 1 {
-        return false;
-    }
-    number <= FORMS
+    1 <= number && number <= FORMS
 }
 
-// The form of a number; that of 1 where it is none.
+// The form of a number. It is total, as its definition is: a trailer and the C records hold the number, which is that of a form.
+#[tactic(auto, using(crate::proofs::Laws::Forms::other_form), unfolding(crate::specs::Forms::form_of))]
 pub(crate) fn form_of(number: u8) -> Form
     ensures { result ≡ form_of number }
 {
-    if number == 2 {
-        return FORM_2;
+    match number {
+        2 => FORM_2,
+        _ => FORM_1,
     }
-    FORM_1
 }
 
-// The number of the form that a byte tells; 0 where none does.
-pub(crate) fn form_told(byte: u64) -> u8
-    ensures { result ≡ form_told byte }
+// The number of the form that a byte tells.
+#[tactic(auto, unfolding(crate::specs::Forms::form_told))]
+pub(crate) fn form_told(byte: u64) -> Option<u8>
+    ensures { result ≡ unless_0 (form_told byte) (form_told byte) }
 {
-    if byte == FORM_1.tells as u64 {
-        return 1;
+    if byte == u64::from(FORM_1.tells) {
+        Some(1)
+    } else if byte == u64::from(FORM_2.tells) {
+        Some(2)
+    } else {
+        None
     }
-    if byte == FORM_2.tells as u64 {
-        return 2;
-    }
-    0
 }
 
 // The greatest number of a field that a form may lack.
 pub(crate) fn greatest_in(width: u8, greatest: u64) -> u64
     ensures { result ≡ greatest_in width greatest }
 {
-    if width == 0 {
-        return 0;
-    }
-    greatest
+    if width == 0 { 0 } else { greatest }
 }
 
 // Whether a number is lost in a field that a form may lack.
 pub(crate) fn lost(width: u8, number: u32) -> bool
     ensures { result ≡ lost_in width number }
 {
-    if width == 0 {
-        return number != 0;
-    }
-    false
+    width == 0 && number != 0
 }

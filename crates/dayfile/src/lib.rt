@@ -2,7 +2,7 @@
 // `sheet`, and go back to it: no sheet is made here. Knows nothing of programs.
 //
 // No public function asks anything of its caller; each takes any numbers and any bytes, ends, and answers what its
-// definition in specs/ says, of every byte of a lent buffer too.
+// definition in specs/ says, of every byte of a lent buffer too. Casts stand where Rust has no `From`, or none in a constant: each is proved to lose nothing.
 #![tactic(auto)]
 
 mod fields;

@@ -16,6 +16,7 @@ use standard::standings::GREATEST_STANDING;
 // "The old 16": the bytes of a record that every form has.
 const OLD_RECORD: usize = 16;
 
+// Rows, as those of a trailer are.
 const LEAST: [u64; 9] = [1, 0, 1, 0, 0, 0, 1, 0, 0];
 
 // The greatest id, standing, tonnage and deck, as numbers of a file.
@@ -31,7 +32,7 @@ const DECK: u64 = GREATEST_DECK as u64;
 pub(crate) fn record_size(form: Form) -> usize
     ensures { (result ≡ record_size form) × (result ≤ most_record) }
 {
-    OLD_RECORD + form.deck as usize + form.zero as usize
+    OLD_RECORD + usize::from(form.deck) + usize::from(form.zero)
 }
 
 // id 2, enclosing id 2, kind 1, standing 1, zero 2, tonnage 4, length 4; then deck and zero, in a form that has them
@@ -41,19 +42,15 @@ fn record_widths(form: Form) -> [u8; 9]
     [2, 2, 1, 1, 2, 4, 4, form.deck, form.zero]
 }
 
-// Writes the records of the first `count` spaces, one after the other, from the front of a part of a buffer.
-pub(crate) fn write_records(buf: &mut [u8], form: Form, spaces: [Space; 200], count: usize)
-    requires { (count ≤ 200) × (record_size form * count ≤ length buf.old) }
-    ensures { buf.new ≡ sets buf.old 0 (records form (take count spaces)) }
+// Writes the records of some spaces, one after the other, from the front of a part of a buffer. By their number: `chunks_exact_mut` was
+// tried, and what the buffer holds after it is a name of Rattle's own, so that the proof didn't close.
+pub(crate) fn write_records(buf: &mut [u8], form: Form, spaces: &[Space])
+    requires { record_size form * length spaces.now ≤ length buf.old }
+    ensures { buf.new ≡ sets buf.old 0 (records form spaces.now) }
 {
     let size = record_size(form);
-    let mut i: usize = 0;
-    let mut at: usize = 0;
-    while i < count {
-        let x = spaces[i];
-        write_record(&mut buf[at..], form, x);
-        at += size;
-        i += 1;
+    for (i, x) in spaces.iter().enumerate() {
+        write_record(&mut buf[size * i..], form, *x);
     }
 }
 
@@ -61,38 +58,31 @@ fn write_record(buf: &mut [u8], form: Form, x: Space)
     requires { record_size form ≤ length buf.old }
     ensures { buf.new ≡ sets buf.old 0 (record_bytes form x) }
 {
-    let widths = record_widths(form);
     let numbers = [
-        x.id as u64,
-        x.within as u64,
-        x.kind as u64,
-        x.standing as u64,
+        u64::from(x.id),
+        u64::from(x.within),
+        u64::from(x.kind),
+        u64::from(x.standing),
         0,
-        x.tonnage as u64,
-        x.length.0 as u64,
-        x.deck as u64,
+        u64::from(x.tonnage),
+        u64::from(x.length.0),
+        u64::from(x.deck),
         0,
     ];
-    put_fields(buf, &widths, &numbers);
+    put_fields(buf, &record_widths(form), &numbers);
 }
 
-// The spaces of the first `count` records of some bytes, in the first places.
+// The spaces of the first `count` records of some bytes, in the first places of an array: the library uses no heap. By their number, too:
+// a zip of `iter_mut` with `chunks_exact` was tried, with the same end.
 pub(crate) fn read_records(bytes: &[u8], form: Form, count: usize) -> [Space; 200]
     requires count_bound { (count ≤ 200) × (record_size form * count ≤ length bytes.now) }
     requires narrow { Narrow (widths_of (record_fields form)) }
     ensures { take count result ≡ each_read_as form (records_in form count bytes.now) }
 {
     let size = record_size(form);
-    let none = empty();
-    let mut spaces = [none; 200];
-    let mut i: usize = 0;
-    let mut at: usize = 0;
-    while i < count {
-        let numbers = read_record(&bytes[at..], form);
-        let x = space_of(form, numbers);
-        spaces[i] = x;
-        at += size;
-        i += 1;
+    let mut spaces = [empty(); 200];
+    for (i, x) in spaces[..count].iter_mut().enumerate() {
+        *x = space_of(form, read_record(&bytes[size * i..], form));
     }
     spaces
 }
@@ -102,9 +92,8 @@ fn read_record(bytes: &[u8], form: Form) -> [u64; 9]
     requires narrow { Narrow (widths_of (record_fields form)) }
     ensures { result ≡ record_numbers form bytes.now }
 {
-    let widths = record_widths(form);
     let mut numbers = [0u64; 9];
-    get_fields(bytes, &widths, &mut numbers);
+    get_fields(bytes, &record_widths(form), &mut numbers);
     numbers
 }
 
@@ -112,10 +101,9 @@ fn read_record(bytes: &[u8], form: Form) -> [u64; 9]
 fn space_of(form: Form, numbers: [u64; 9]) -> Space
     ensures { result ≡ read_as form numbers }
 {
-    let least = LEAST;
     let deck = greatest_in(form.deck, DECK);
     let greatest = [ID, 65_535, 5, STANDING, 0, TONNAGE, 150_000, deck, 0];
-    if in_ranges(&numbers, &least, &greatest) {
+    if in_ranges(&numbers, &LEAST, &greatest) {
         return Space {
             id: numbers[0] as u16,
             within: numbers[1] as u16,

@@ -1,13 +1,10 @@
 -- A day's file: sheets written one after another, in either form, are all found again, the last first, each with its start. Stands on
 -- WrittenRead, ReadWritten.
-use Prim.Native.Nat.{ℕ, zero, suc, ◌+◌, ◌≤◌}
-use mathlib.Core.Path.{◌≡◌, refl, sym, ap, ◌∙◌, subst}
-use mathlib.Core.List.{List, [], ◌∷◌, ◌++◌, append_assoc, append-nil, reverse, reverse_aux, reverse_aux-eq}
-use native.Mathlib.Omega.{arith}
-use borrow.Author.Tests.{eq-eqb, ne_eqb, eqb-true, eqb-false}
-use lib.Dec.{eqb}
-use lib.ListN.{length, take, length-append, length-reverse}
-use lib.Seq.{length-take-le, take_all, take-append_seam}
+use Rattle.std.proofs.Common.{ℕ, zero, suc, ◌+◌, ◌≤◌, ◌≡◌, refl, sym, ap, ◌∙◌, subst, List, [], ◌∷◌, ◌++◌, append_assoc, append-nil, reverse, arith, eq-eqb, ne_eqb, eqb-true, eqb, length, take, length-append, length-take-le, take_all}
+use mathlib.Core.List.{reverse_aux, reverse_aux-eq}
+use borrow.Author.Tests.{eqb-false}
+use lib.ListN.{length-reverse}
+use lib.Seq.{take-append_seam}
 use Rattle.spaces.proofs.Laws.Cases.{by_test}
 use Rattle.sheet.specs.declared.sheet.Sheet.{Sheet}
 use Rattle.dayfile.specs.Forms.{form_of}

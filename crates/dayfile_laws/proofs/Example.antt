@@ -1,10 +1,5 @@
 -- "A whole sheet" of document 01: the theorems apply to it, and "The file has 108 bytes". Stands on WrittenRead.
-use Prim.Native.Nat.{ℕ}
-use mathlib.Core.Path.{◌≡◌, refl, ap}
-use mathlib.Core.Bool.{true, false}
-use mathlib.Core.List.{[], ◌∷◌}
-use native.Mathlib.Omega.{arith}
-use lib.ListN.{length}
+use Rattle.std.proofs.Common.{ℕ, ◌≡◌, refl, ap, true, false, [], ◌∷◌, arith, length}
 use Rattle.measure.specs.Volumes.{hundredths}
 use Rattle.measure.specs.Rounding.{nearest}
 use Rattle.measure.specs.Kinds.{kind_of}

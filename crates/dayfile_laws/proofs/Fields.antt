@@ -1,13 +1,5 @@
 -- A row of fields and its numbers, both ways, once over any fields. Stands on Numbers.
-use Prim.Native.Nat.{ℕ, ◌^◌, ◌≤◌, ◌<◌}
-use mathlib.Core.Path.{◌≡◌, refl, subst}
-use mathlib.Core.Bool.{true, ◌&&◌}
-use mathlib.Core.List.{List, [], ◌∷◌, ◌++◌, append_assoc}
-use native.Mathlib.Omega.{arith}
-use borrow.Author.Tests.{leb-true, le-leb}
-use lib.Dec.{leb}
-use lib.ListN.{length, take, drop, length-drop}
-use lib.Seq.{length-take-le, take_at, drop_at, take-add}
+use Rattle.std.proofs.Common.{ℕ, ◌^◌, ◌≤◌, ◌<◌, ◌≡◌, refl, subst, true, ◌&&◌, List, [], ◌∷◌, ◌++◌, append_assoc, arith, leb-true, le-leb, leb, length, take, drop, length-drop, length-take-le, take_at, drop_at, take-add}
 use Rattle.measure.proofs.Laws.Tests.{and_left, and_right}
 use Rattle.measure.proofs.Laws.Volumes.{at_most_take, at_most_drop}
 use Rattle.dayfile.specs.Numbers.{Bytes, bytes_of, number_of}

@@ -1,14 +1,7 @@
 -- The numbers of records that `resume` accepts all fit the fields of the file. Stands on Records.
-use Prim.Native.Nat.{ℕ, zero, suc, ◌*◌, ◌≤◌}
-use mathlib.Core.Path.{◌≡◌, refl, ap}
-use mathlib.Core.Bool.{true, false, not, ◌||◌}
+use Rattle.std.proofs.Common.{ℕ, zero, suc, ◌*◌, ◌≤◌, ◌≡◌, refl, ap, true, false, not, ◌||◌, List, [], ◌∷◌, ⊎_elim, le_trans, arith, ltb-true, ltb-false, leb-true, eqb-true, ltb, leb}
 use mathlib.Core.List.Memᴰ
-use mathlib.Core.List.{List, [], ◌∷◌}
-use mathlib.Core.Logic.{⊎_elim}
-use native.Mathlib.Nat.{le_trans}
-use native.Mathlib.Omega.{arith}
-use borrow.Author.Tests.{not-false, ltb-true, ltb-false, leb-true, eqb-true}
-use lib.Dec.{ltb, leb}
+use borrow.Author.Tests.{not-false}
 use Rattle.measure.specs.declared.units.Hundredths.{Hundredths}
 use Rattle.measure.specs.Kinds.{kind_of}
 use Rattle.measure.specs.Ranges.{includes, lengths}

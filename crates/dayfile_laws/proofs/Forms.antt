@@ -1,14 +1,7 @@
 -- The forms: a byte tells a form exactly where it is that form's, a field that a form lacks reads as 0, what isn't lost in a field is held
 -- by it, and how their bytes lie. Stands on nothing of the sheet.
-use Prim.Native.Nat.{ℕ, zero, suc, ◌+◌, ◌*◌, ◌^◌, ◌<◌, ◌≤◌}
-use mathlib.Core.Path.{◌≡◌, refl, sym}
-use mathlib.Core.Bool.{true, false, not}
-use mathlib.Core.List.{List, [], ◌++◌}
-use mathlib.Core.Logic.{◌↔◌}
-use native.Mathlib.Omega.{arith}
-use borrow.Author.Tests.{not-false, eqb-true, eq-eqb, leb-true}
-use lib.Dec.{eqb, leb}
-use lib.ListN.{length, take}
+use Rattle.std.proofs.Common.{ℕ, zero, suc, ◌+◌, ◌*◌, ◌^◌, ◌<◌, ◌≤◌, ◌≡◌, refl, sym, true, false, not, List, [], ◌++◌, ◌↔◌, arith, eqb-true, eq-eqb, leb-true, eqb, leb, length, take}
+use borrow.Author.Tests.{not-false}
 use Rattle.measure.proofs.Laws.Tests.{and_right}
 use Rattle.spaces.specs.declared.space.Space.{Space}
 use Rattle.spaces.proofs.Laws.Cases.{by_test, not_both}

@@ -2,15 +2,8 @@
 -- refused, with any other bytes before its last sheet. Of a file without a frame that isn't so. It is refused with 16, and bytes before
 -- it can give it one where it is too short: a trailer alone is shorter than its distance, and with its records before it is a sheet.
 -- Where its last 28 bytes are no right trailer, it is refused with 16 behind any bytes (`wrong_behind`).
-use Prim.Native.Nat.{ℕ, ◌+◌, ◌-◌, ◌≤◌}
-use mathlib.Core.Path.{◌≡◌, refl, sym, ap, ◌∙◌}
-use mathlib.Core.Bool.{Bool, true, false, cond, not}
-use mathlib.Core.List.{List, [], ◌∷◌, ◌++◌, append_assoc}
-use native.Mathlib.Omega.{arith}
-use borrow.Author.Tests.{le-ltb}
-use lib.Dec.{eqb, ltb}
-use lib.ListN.{length, take, drop, get_or, length-append, length-drop, take-append-drop}
-use lib.Seq.{length-take-le, drop-append_seam, drop-append-add}
+use Rattle.std.proofs.Common.{ℕ, ◌+◌, ◌-◌, ◌≤◌, ◌≡◌, refl, sym, ap, ◌∙◌, Bool, true, false, cond, not, List, [], ◌∷◌, ◌++◌, append_assoc, arith, le-ltb, eqb, ltb, length, take, drop, get_or, length-append, length-drop, take-append-drop, length-take-le}
+use lib.Seq.{drop-append_seam, drop-append-add}
 use Rattle.measure.specs.Refusals.{first_of}
 use Rattle.spaces.proofs.Laws.Cases.{by_test}
 use Rattle.dayfile.specs.Numbers.{number_of}

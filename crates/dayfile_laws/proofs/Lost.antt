@@ -1,13 +1,7 @@
 -- 20, both ways: exactly where form 1 is named and a deck or the vessel number isn't 0. Stands on Forms, Fitting.
-use Prim.Native.Nat.{ℕ}
-use mathlib.Core.Path.{◌≡◌, refl}
-use mathlib.Core.Bool.{true, false}
+use Rattle.std.proofs.Common.{ℕ, ◌≡◌, refl, true, false, List, [], ◌∷◌, ◌↔◌, arith, eqb}
 use mathlib.Core.List.Memᴰ
-use mathlib.Core.List.{List, [], ◌∷◌}
-use mathlib.Core.Logic.{◌↔◌}
-use native.Mathlib.Omega.{arith}
 use borrow.Author.Tests.{eqb-false}
-use lib.Dec.{eqb}
 use Rattle.spaces.specs.declared.space.Space.{Space}
 use Rattle.spaces.proofs.Laws.Cases.{by_test, not_both, or_fails}
 use Rattle.spaces_laws.specs.Above.{◌∈◌}

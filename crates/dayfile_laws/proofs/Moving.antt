@@ -1,13 +1,7 @@
 -- Moves: as a write of the sheet that was read; a copy in the form it has; there and back in any forms. Stands on ReadWritten, WrittenRead,
 -- Lost, Writing.
-use Prim.Native.Nat.{ℕ, ◌+◌, ◌≤◌}
-use mathlib.Core.Path.{◌≡◌, refl, sym, ap, ap₂, ◌∙◌}
-use mathlib.Core.Bool.{true, false, not}
-use mathlib.Core.List.{List, ◌∷◌}
-use native.Mathlib.Omega.{arith}
-use borrow.Author.Tests.{not-false, ne_eqb}
-use lib.Dec.{eqb}
-use lib.ListN.{length, take, drop}
+use Rattle.std.proofs.Common.{ℕ, ◌+◌, ◌≤◌, ◌≡◌, refl, sym, ap, ap₂, ◌∙◌, true, false, not, List, ◌∷◌, arith, ne_eqb, eqb, length, take, drop}
+use borrow.Author.Tests.{not-false}
 use Rattle.sheet.specs.declared.sheet.Sheet.{Sheet}
 use Rattle.sheet.proofs.Laws.Calls.{passed, after_call}
 use Rattle.dayfile.specs.Numbers.{Bytes}

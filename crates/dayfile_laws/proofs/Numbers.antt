@@ -1,11 +1,6 @@
 -- A number and its bytes, both ways, once over any width. Stands on nothing of the sheet.
-use Prim.Native.Nat.{ℕ, zero, suc, ◌+◌, ◌*◌, ◌/◌, ◌%◌, ◌^◌, ◌<◌}
-use mathlib.Core.Path.{◌≡◌, refl, ◌∙◌}
-use mathlib.Core.List.{List}
-use native.Mathlib.Nat.{pow-suc, mod-add-div, div-lt_iff_lt-mul, add-mul-mod_self_left, mod-eq_of_lt, add-mul-div_left, div-eq_of_lt, zero-add}
-use native.Mathlib.Omega.{arith}
-use lib.Dec.{lit<}
-use lib.ListN.{length}
+use Rattle.std.proofs.Common.{ℕ, zero, suc, ◌+◌, ◌*◌, ◌/◌, ◌%◌, ◌^◌, ◌<◌, ◌≡◌, refl, ◌∙◌, List, pow-suc, div-lt_iff_lt-mul, mod-eq_of_lt, zero-add, arith, lit<, length}
+use native.Mathlib.Nat.{mod-add-div, add-mul-mod_self_left, add-mul-div_left, div-eq_of_lt}
 use Rattle.measure.specs.Handed.{none, more}
 use Rattle.dayfile.specs.Numbers.{Bytes, bytes_of, number_of}
 

@@ -1,13 +1,6 @@
 -- Read, then written: a sheet that was read has exactly the bytes it was read from. Stands on Records, WrittenRead, Writing.
-use Prim.Native.Nat.{ℕ, zero, suc, ◌+◌, ◌*◌, ◌^◌, ◌-◌, ◌≤◌, ◌<◌}
-use mathlib.Core.Path.{◌≡◌, refl, sym, ap, ap₂, ◌∙◌, subst}
-use mathlib.Core.Bool.{true, false}
-use mathlib.Core.List.{List, [], ◌++◌, append-nil}
+use Rattle.std.proofs.Common.{ℕ, zero, suc, ◌+◌, ◌*◌, ◌^◌, ◌-◌, ◌≤◌, ◌<◌, ◌≡◌, refl, sym, ap, ap₂, ◌∙◌, subst, true, false, List, [], ◌++◌, append-nil, arith, lit≤, length, take, drop, length-drop, take-append-drop, drop_of_length-le, length-take-le, take_all, drop-drop}
 use native.Mathlib.Nat.{pow-le-pow_right}
-use native.Mathlib.Omega.{arith}
-use lib.Dec.{lit≤}
-use lib.ListN.{length, take, drop, length-drop, take-append-drop, drop_of_length-le}
-use lib.Seq.{length-take-le, take_all, drop-drop}
 use Rattle.measure.proofs.Laws.Volumes.{at_most_take, at_most_drop}
 use Rattle.spaces.specs.Space.{all_recorded}
 use Rattle.spaces.specs.declared.space.Space.{Space}

@@ -1,16 +1,8 @@
 -- Records and trailers, both ways: what fits its fields is read back, and what was read fitting is written back. Stands on Fields,
 -- Forms, Faults.
-use Prim.Native.Nat.{ℕ, zero, suc, ◌+◌, ◌*◌, ◌≤◌}
-use mathlib.Core.Path.{◌≡◌, refl, sym, ap, ◌∙◌}
-use mathlib.Core.Bool.{true, false, not}
+use Rattle.std.proofs.Common.{ℕ, zero, suc, ◌+◌, ◌*◌, ◌≤◌, ◌≡◌, refl, sym, ap, ◌∙◌, true, false, not, List, [], ◌∷◌, ◌++◌, map, append_assoc, append-nil, mul-zero, mul-suc, arith, lit<, length, take, drop, get_or, length-drop, drop_at, take-add}
 use mathlib.Core.List.Memᴰ
-use mathlib.Core.List.{List, [], ◌∷◌, ◌++◌, map, append_assoc, append-nil}
-use native.Mathlib.Nat.{mul-zero, mul-suc}
-use native.Mathlib.Omega.{arith}
 use borrow.Author.Tests.{not-false}
-use lib.Dec.{lit<}
-use lib.ListN.{length, take, drop, get_or, length-drop}
-use lib.Seq.{drop_at, take-add}
 use Rattle.measure.specs.declared.units.Hundredths.{Hundredths}
 use Rattle.measure.proofs.Laws.Volumes.{at_most_drop}
 use Rattle.measure.specs.Volumes.{hundredths}

@@ -1,11 +1,6 @@
 -- The sheet of some spaces with no open changes, which reading answers. Stands on nothing of the file.
-use Prim.Native.Nat.{ℕ, ◌≤◌}
-use mathlib.Core.Path.{◌≡◌, refl, ap, ap₂, ◌∙◌}
-use mathlib.Core.Bool.{true}
-use mathlib.Core.List.{List}
-use native.Mathlib.Omega.{arith}
-use borrow.Author.Tests.{le-leb}
-use lib.ListN.{length, drop, replicate, length-append, length-drop, length-replicate}
+use Rattle.std.proofs.Common.{ℕ, ◌≤◌, ◌≡◌, refl, ap, ap₂, ◌∙◌, true, List, arith, le-leb, length, drop, replicate, length-append, length-drop}
+use lib.ListN.{length-replicate}
 use lib.Seq.{take-append_seam}
 use Rattle.measure.specs.declared.units.Hundredths.{Hundredths}
 use Rattle.spaces.specs.Space.{empty_space}

@@ -1,13 +1,6 @@
 -- What a write does to a buffer, accepted or refused: "no byte before or after is touched". Stands on nothing of the file's numbers.
-use Prim.Native.Nat.{ℕ, ◌+◌, ◌-◌, ◌≤◌}
-use mathlib.Core.Path.{◌≡◌, refl, sym, ap, ◌∙◌}
-use mathlib.Core.Bool.{true, false, not, ◌||◌}
-use mathlib.Core.List.{List, [], ◌∷◌, ◌++◌, append_assoc}
-use native.Mathlib.Omega.{arith}
-use borrow.Author.Tests.{eq-eqb, ne_eqb, eqb-true, eqb-false, le-ltb, ltb-false}
-use lib.Dec.{eqb, ltb}
-use lib.ListN.{length, take, drop, length-append, length-drop}
-use lib.Seq.{length-take-le, take_at, drop_at}
+use Rattle.std.proofs.Common.{ℕ, ◌+◌, ◌-◌, ◌≤◌, ◌≡◌, refl, sym, ap, ◌∙◌, true, false, not, ◌||◌, List, [], ◌∷◌, ◌++◌, append_assoc, arith, eq-eqb, ne_eqb, eqb-true, le-ltb, ltb-false, eqb, ltb, length, take, drop, length-append, length-drop, length-take-le, take_at, drop_at}
+use borrow.Author.Tests.{eqb-false}
 use Rattle.spaces.proofs.Laws.Cases.{by_test}
 use Rattle.measure.specs.Refusals.{first_of}
 use Rattle.measure.proofs.Laws.Refusals.{spliced}

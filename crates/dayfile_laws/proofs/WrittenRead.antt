@@ -1,14 +1,8 @@
 -- Written, then read: a sheet that resumes comes back from its bytes, whatever stands before them. Stands on LastSheet, Fitting,
 -- Writing.
-use Prim.Native.Nat.{ℕ, ◌+◌, ◌-◌, ◌≤◌}
-use mathlib.Core.Path.{◌≡◌, refl, sym, ap, ap₂, ◌∙◌}
-use mathlib.Core.Bool.{true, false}
+use Rattle.std.proofs.Common.{ℕ, ◌+◌, ◌-◌, ◌≤◌, ◌≡◌, refl, sym, ap, ap₂, ◌∙◌, true, false, List, [], ◌∷◌, ◌++◌, map, arith, eq-eqb, length, take, drop, length-take-le, take_at}
 use mathlib.Core.List.Memᴰ
-use mathlib.Core.List.{List, [], ◌∷◌, ◌++◌, map}
-use native.Mathlib.Omega.{arith}
-use borrow.Author.Tests.{eq-eqb}
-use lib.ListN.{length, take, drop, length-map}
-use lib.Seq.{length-take-le, take_at}
+use lib.ListN.{length-map}
 use Rattle.measure.specs.declared.units.Hundredths.{Hundredths}
 use Rattle.standard.specs.Gross.{gross, net, reckoned}
 use Rattle.standard.specs.declared.gross.Reckoning.{Reckoning}
@@ -36,7 +30,7 @@ use Rattle.dayfile.specs.Reading.{last_numbers, last_trailer, last_form, last_re
 use Rattle.dayfile.specs.Handed.{read_as, each_read_as}
 use Rattle.dayfile.specs.declared.forms.Form.{Form}
 use Rattle.dayfile.proofs.Laws.Writing.{length_trailer, length_vessel, length_end, length_sheet}
-use Rattle.dayfile.proofs.Laws.Reading.{judged, read_judged, same_figures}
+use Rattle.dayfile.proofs.Laws.Reading.{judged, read_judged, accepted_is, same_figures}
 use Rattle.dayfile_laws.specs.Reading.{ReadBack}
 use Rattle.dayfile_laws.specs.Day.{ResumableSheet, Writable, sheet_with, as_read}
 use Rattle.dayfile_laws.proofs.Numbers.{number_of_bytes}
@@ -207,9 +201,10 @@ module _ (s : Sheet) (justified form : ℕ) (w : Writable s justified form) wher
     written_then_read =
         let t = trailer_for s justified form in
         let same = same_reckoning in
-        sym
-        (same_figures (as_read s) t (length pre) reports_again (ap (λ (r : Reckoning). r.gross) same) (ap (λ (r : Reckoning). r.net) same)
-        ∙ read_judged file (as_read s) t (length pre) (sym sheet_is) (sym trailer_is) (sym (starts_behind whole pre)) (framed_behind whole pre) no_fault)
+        let read =
+        same_figures (as_read s) t (length pre) reports_again (ap (λ (r : Reckoning). r.gross) same) (ap (λ (r : Reckoning). r.net) same)
+        ∙ read_judged file (as_read s) t (length pre) (sym sheet_is) (sym trailer_is) (sym (starts_behind whole pre)) (framed_behind whole pre) no_fault in
+        sym (accepted_is file _ (sym read))
 
 -- ---- the same in the paper's words
 

@@ -3,15 +3,8 @@
 -- That every call ends and stays inside what it was lent is what the check proves of each function; and no public function asks
 -- anything of what it is given (NoSecondAnswer), so nobody has to check first. Here is what the check doesn't say. When a call is to be
 -- refused, each of its numbers with the condition, is in specs/Refusals. Stands on Tests, Reached.
-use Prim.Native.Nat.{ℕ, ◌<◌}
-use mathlib.Core.Path.{◌≡◌, refl, sym, ap, ◌∙◌}
-use mathlib.Core.Bool.{Bool, true, false, cond, not, ◌||◌}
-use mathlib.Core.List.{List, [], ◌∷◌, ◌++◌}
-use mathlib.Core.Logic.{◌↔◌}
-use native.Mathlib.Omega.{arith}
-use borrow.Author.Tests.{not-true, eq-eqb, ne_eqb, eqb-true, eqb-false, le-ltb}
-use lib.Dec.{eqb, ltb, lit<}
-use lib.ListN.{length, drop}
+use Rattle.std.proofs.Common.{ℕ, ◌<◌, ◌≡◌, refl, sym, ap, ◌∙◌, Bool, true, false, cond, not, ◌||◌, List, [], ◌∷◌, ◌++◌, ◌↔◌, arith, eq-eqb, ne_eqb, eqb-true, le-ltb, eqb, ltb, lit<, length, drop}
+use borrow.Author.Tests.{not-true, eqb-false}
 use Rattle.measure.specs.declared.units.Hundredths.{Hundredths}
 use Rattle.measure.specs.Kinds.{kind_of}
 use Rattle.measure.specs.Ranges.{includes, tonnage_lengths}

@@ -2,14 +2,8 @@
 -- nearest hundredth of a ton, and gross and net follow from them. A sheet written and read back has the same spaces in the same order;
 -- the sheet read from a file, written again with its mark, gives the bytes it was read from."
 -- Stands on Reached. t is the tonnage length and l the space's length; parts, multipliers and areas are defined in measure/specs.
-use Prim.Native.Nat.{ℕ, ◌+◌, ◌*◌, ◌≤◌, ◌<◌}
-use mathlib.Core.Path.{◌≡◌, refl, sym, ap, ◌∙◌}
-use mathlib.Core.Bool.{true, false, not}
-use mathlib.Core.List.{List, [], ◌∷◌, ◌++◌}
-use native.Mathlib.Omega.{arith}
-use borrow.Author.Tests.{not-true, not-false, eq-eqb, ne_eqb, eqb-true, eqb-false, le-leb}
-use lib.Dec.{eqb}
-use lib.ListN.{length, take, drop}
+use Rattle.std.proofs.Common.{ℕ, ◌+◌, ◌*◌, ◌≤◌, ◌<◌, ◌≡◌, refl, sym, ap, ◌∙◌, true, false, not, List, [], ◌∷◌, ◌++◌, arith, eq-eqb, ne_eqb, eqb-true, le-leb, eqb, length, take, drop}
+use borrow.Author.Tests.{not-true, not-false, eqb-false}
 use Rattle.measure.specs.Kinds.{kind_of}
 use Rattle.measure.specs.Rounding.{Nearest}
 use Rattle.measure.specs.Parts.{table_parts, under_deck_parts, depth_parts, superstructure_parts, NearestEven}

@@ -4,12 +4,8 @@
 -- given, net is neither below zero nor above gross."
 -- First the whole of it, then clause by clause. The runs are those of specs/Reached; the log of accepted changes, what they leave and
 -- the paper's counts are defined in sheet_laws/specs/Run; what is above in spaces_laws/specs/Above. Stands on Reached.
-use Prim.Native.Nat.{ℕ, ◌+◌, ◌≤◌}
-use mathlib.Core.Path.{◌≡◌, ◌∙◌}
-use mathlib.Core.Bool.{false}
-use mathlib.Core.List.{List}
-use borrow.Author.Tests.{eqb-true, eqb-false}
-use lib.Dec.{eqb}
+use Rattle.std.proofs.Common.{ℕ, ◌+◌, ◌≤◌, ◌≡◌, ◌∙◌, false, List, eqb-true, eqb}
+use borrow.Author.Tests.{eqb-false}
 use Rattle.measure.specs.declared.units.Hundredths.{Hundredths}
 use Rattle.spaces.specs.Space.{is_plain}
 use Rattle.spaces.specs.Row.{sum_of}

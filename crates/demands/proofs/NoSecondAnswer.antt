@@ -5,7 +5,7 @@
 -- to change. Every contract says `.. ≡ definition`, so the idea of each proof is that two things equal to a third are equal.
 -- tools/promises.py writes the rows, and fails where a public function has none or where a row says anything else. (`input::read_full`
 -- has none: what is read is for the reader to say that is handed over.)
-use mathlib.Core.Path.{◌≡◌, refl, sym, ap, ◌∙◌}
+use Rattle.std.proofs.Common.{◌≡◌, refl, sym, ap, ◌∙◌}
 use Rattle.demands.specs.OneAnswer.{One, OneBy}
 use Rattle.dayfile.proofs as dayfile
 use Rattle.dayfile.specs.contracts as dayfile'
@@ -108,39 +108,35 @@ measure_divided _ = record { nothing_asked = tt; one_answer = agree; one_left = 
 
 -- spaces
 pub spaces_around_space :
-    One spaces'.around.around_space.ended spaces.around.around_space.Reads.Asked spaces.around.around_space.Reads.Learnt
+    One spaces'.row.Row.around_space.ended spaces.row.Row.around_space.Reads.Asked spaces.row.Row.around_space.Reads.Learnt
 spaces_around_space _ = record { nothing_asked = tt; one_answer = agree; one_left = λ p q. refl }
 
 pub spaces_around_each :
-    One spaces'.around.around_each.ended spaces.around.around_each.Reads.Asked spaces.around.around_each.Reads.Learnt
+    One spaces'.row.Row.around_each.ended spaces.row.Row.around_each.Reads.Asked spaces.row.Row.around_each.Reads.Learnt
 spaces_around_each _ = record { nothing_asked = tt; one_answer = agree; one_left = λ p q. refl }
 
 pub spaces_all_above :
-    One spaces'.enclosure.all_above.ended spaces.enclosure.all_above.Reads.Asked spaces.enclosure.all_above.Reads.Learnt
+    One spaces'.row.Row.all_above.ended spaces.row.Row.all_above.Reads.Asked spaces.row.Row.all_above.Reads.Learnt
 spaces_all_above _ = record { nothing_asked = tt; one_answer = agree; one_left = λ p q. refl }
 
 pub spaces_plain_below :
-    One spaces'.enclosure.plain_below.ended spaces.enclosure.plain_below.Reads.Asked spaces.enclosure.plain_below.Reads.Learnt
+    One spaces'.row.Row.plain_below.ended spaces.row.Row.plain_below.Reads.Asked spaces.row.Row.plain_below.Reads.Learnt
 spaces_plain_below _ = record { nothing_asked = tt; one_answer = agree; one_left = λ p q. refl }
 
-pub spaces_lesser :
-    One spaces'.row.lesser.ended spaces.row.lesser.Reads.Asked spaces.row.lesser.Reads.Learnt
-spaces_lesser _ = record { nothing_asked = tt; one_answer = agree; one_left = λ p q. refl }
-
-pub spaces_used :
-    One spaces'.row.used.ended spaces.row.used.Reads.Asked spaces.row.used.Reads.Learnt
-spaces_used _ = record { nothing_asked = tt; one_answer = agree; one_left = λ p q. refl }
+pub spaces_of :
+    OneBy spaces'.row.Row.of.ended spaces.row.Row.of.Reads.Asked spaces.row.Row.of.Reads.Learnt (λ lives. (λ x. x.spaces.now))
+spaces_of _ = record { nothing_asked = tt; one_answer = agree; one_left = λ p q. refl }
 
 pub spaces_find :
-    One spaces'.row.find.ended spaces.row.find.Reads.Asked spaces.row.find.Reads.Learnt
+    One spaces'.row.Row.find.ended spaces.row.Row.find.Reads.Asked spaces.row.Row.find.Reads.Learnt
 spaces_find _ = record { nothing_asked = tt; one_answer = agree; one_left = λ p q. refl }
 
 pub spaces_place_of :
-    One spaces'.row.place_of.ended spaces.row.place_of.Reads.Asked spaces.row.place_of.Reads.Learnt
+    One spaces'.row.Row.place_of.ended spaces.row.Row.place_of.Reads.Asked spaces.row.Row.place_of.Reads.Learnt
 spaces_place_of _ = record { nothing_asked = tt; one_answer = agree; one_left = λ p q. refl }
 
 pub spaces_stands :
-    One spaces'.row.stands.ended spaces.row.stands.Reads.Asked spaces.row.stands.Reads.Learnt
+    One spaces'.row.Row.stands.ended spaces.row.Row.stands.Reads.Asked spaces.row.Row.stands.Reads.Learnt
 spaces_stands _ = record { nothing_asked = tt; one_answer = agree; one_left = λ p q. refl }
 
 pub spaces_empty :
@@ -148,11 +144,11 @@ pub spaces_empty :
 spaces_empty _ = record { nothing_asked = tt; one_answer = agree; one_left = λ p q. refl }
 
 pub spaces_sum :
-    One spaces'.sums.sum.ended spaces.sums.sum.Reads.Asked spaces.sums.sum.Reads.Learnt
+    One spaces'.row.Row.sum.ended spaces.row.Row.sum.Reads.Asked spaces.row.Row.sum.Reads.Learnt
 spaces_sum _ = record { nothing_asked = tt; one_answer = λ p q. agree p.0 q.0; one_left = λ p q. refl }
 
 pub spaces_total_up :
-    One spaces'.sums.total_up.ended spaces.sums.total_up.Reads.Asked spaces.sums.total_up.Reads.Learnt
+    One spaces'.row.Row.total_up.ended spaces.row.Row.total_up.Reads.Asked spaces.row.Row.total_up.Reads.Learnt
 spaces_total_up _ = record { nothing_asked = tt; one_answer = λ p q. agree p.0 q.0; one_left = λ p q. refl }
 
 -- standard
@@ -252,6 +248,10 @@ sheet_space_at _ = record { nothing_asked = tt; one_answer = agree; one_left = �
 pub sheet_places :
     One sheet'.sheet.Sheet.places.ended sheet.sheet.Sheet.places.Reads.Asked sheet.sheet.Sheet.places.Reads.Learnt
 sheet_places _ = record { nothing_asked = tt; one_answer = agree; one_left = λ p q. refl }
+
+pub sheet_standing :
+    OneBy sheet'.sheet.Sheet.standing.ended sheet.sheet.Sheet.standing.Reads.Asked sheet.sheet.Sheet.standing.Reads.Learnt (λ lives. (λ x. x.spaces.now))
+sheet_standing _ = record { nothing_asked = tt; one_answer = λ p q. agree p.0 q.0; one_left = λ p q. refl }
 
 pub sheet_is_open :
     One sheet'.sheet.Sheet.is_open.ended sheet.sheet.Sheet.is_open.Reads.Asked sheet.sheet.Sheet.is_open.Reads.Learnt

@@ -1,9 +1,6 @@
 -- What a sheet is that calls can reach: its spaces are all accepted as records, in order, on the 200 places of an open sheet. Stands on
 -- sheet_laws, AnyRun.
-use Prim.Native.Nat.{◌≤◌}
-use mathlib.Core.Path.{◌≡◌, refl, sym, ap, ◌∙◌}
-use mathlib.Core.Bool.{true}
-use mathlib.Core.List.{List, [], ◌∷◌}
+use Rattle.std.proofs.Common.{◌≤◌, ◌≡◌, refl, sym, ap, ◌∙◌, true, List, [], ◌∷◌}
 use Rattle.measure.specs.declared.units.Hundredths.{Hundredths}
 use Rattle.spaces.specs.Space.{all_recorded}
 use Rattle.spaces.specs.declared.space.Space.{Space}

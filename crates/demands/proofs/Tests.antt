@@ -1,12 +1,6 @@
 -- "The lowest number that applies is given", as one law over every list of numbered tests. Stands on measure_laws, Refusals.
-use Prim.Native.Nat.{ℕ, ◌<◌, ◌≤◌}
-use mathlib.Core.Path.{◌≡◌, refl}
-use mathlib.Core.Logic.{⊎_elim, ◌↔◌}
-use mathlib.Core.Bool.{Bool, true, false, not, ◌&&◌, ◌||◌}
-use mathlib.Core.List.{List, [], ◌∷◌, ◌++◌}
-use native.Mathlib.Omega.{arith}
-use borrow.Author.Tests.{not-true, eqb-true, eqb-false, ltb-true, ltb-false}
-use lib.Dec.{eqb, ltb}
+use Rattle.std.proofs.Common.{ℕ, ◌<◌, ◌≤◌, ◌≡◌, refl, ⊎_elim, ◌↔◌, Bool, true, false, not, ◌&&◌, ◌||◌, List, [], ◌∷◌, ◌++◌, arith, eqb-true, ltb-true, ltb-false, eqb, ltb}
+use borrow.Author.Tests.{not-true, eqb-false}
 use Rattle.measure.specs.Refusals.{first_of, Refuse, here, later, Accept}
 use Rattle.measure_laws.proofs.Refusals.{refused_with, accepted, judged}
 use Rattle.spaces.proofs.Laws.Cases.{by_test}

@@ -1,13 +1,6 @@
 -- How far up an entry looked (T-07 of document 02): "Entry of a room, accepted or refused, answers the number of enclosing spaces
 -- visited". Stands on Tests, Reached, Demand1, and Visited of spaces_laws.
-use Prim.Native.Nat.{ℕ, ◌≤◌, ◌<◌}
-use mathlib.Core.Path.{◌≡◌, refl, sym, ap, ◌∙◌, subst}
-use mathlib.Core.Bool.{Bool, true, false, cond}
-use mathlib.Core.List.{List, ◌∷◌}
-use mathlib.Core.Logic.{◌↔◌}
-use mathlib.Core.Option.{some}
-use native.Mathlib.Omega.{arith}
-use borrow.Author.Tests.{eq-eqb, ne_eqb}
+use Rattle.std.proofs.Common.{ℕ, ◌≤◌, ◌<◌, ◌≡◌, refl, sym, ap, ◌∙◌, subst, Bool, true, false, cond, List, ◌∷◌, ◌↔◌, Some, arith, eq-eqb, ne_eqb}
 use Rattle.spaces.specs.Space.{is_room}
 use Rattle.spaces.specs.Row.{find}
 use Rattle.spaces.specs.Enclosure.{enclosing}
@@ -90,14 +83,14 @@ others_visit_none s e heights breadths other =
 
 -- on every sheet that calls can reach it is the level of the named space
 pub level_of_named_space : {s : Sheet} → Reached s → {within number visited : ℕ} → Visits s within number visited → (z : Space)
-    → find within (standing s) ≡ some z → (n : ℕ) → (visited ≡ n) ↔ LevelIs (standing s) z n
+    → find within (standing s) ≡ Some z → (n : ℕ) → (visited ≡ n) ↔ LevelIs (standing s) z n
 level_of_named_space {s} r v z stands n =
     rw (v.by_level (reached_open r) z stands)
     (level_within_8 (reached_resumable r).resumable.valid z (found_stands _ (standing s) stands).0 n)
 
 -- 1, where the enclosing id names a space at level 1
 pub one_at_level_1 : {s : Sheet} {within number visited : ℕ} → Visits s within number visited → usable s ≡ true → (z : Space)
-    → find within (standing s) ≡ some z → is_room z ≡ false → visited ≡ 1
+    → find within (standing s) ≡ Some z → is_room z ≡ false → visited ≡ 1
 one_at_level_1 {s} v on z stands no_room = omega (arith, v.by_level on z stands, level_of_other (standing s) z no_room)
 
 -- a tank's change and its number are those of before

@@ -1,6 +1,5 @@
 -- What an entry answers beside its number: "how far up did it look" (T-07 of document 02).
-use Rattle.std.specs.Prelude.{ℕ, ◌≤◌, ◌<◌, min, ◌≡◌, true, false, List, ◌↔◌}
-use Rattle.std.proofs.Math.Option.{none, some}
+use Rattle.std.specs.Prelude.{ℕ, ◌≤◌, ◌<◌, min, ◌≡◌, true, false, List, ◌↔◌, None, Some}
 use Rattle.spaces.specs.Space.{is_room}
 use Rattle.spaces.specs.Row.{find}
 use Rattle.spaces.specs.Enclosure.{level}
@@ -17,13 +16,13 @@ pub record Visits (s : Sheet) (within number visited : ℕ) : Type 0 where
   -- it hangs on the enclosing id alone: every room that names it has the same
   pub by_enclosing_id : (x : Space) → is_room x ≡ true → x.within ≡ within → visited ≡ visited_for s x
   -- "one for the named space and one for each step above it to level 1"
-  pub by_level : usable s ≡ true → (z : Space) → find within (standing s) ≡ some z → visited ≡ min (level (standing s) z) 8
+  pub by_level : usable s ≡ true → (z : Space) → find within (standing s) ≡ Some z → visited ≡ min (level (standing s) z) 8
   -- "It is at most 8"
   pub at_most_8 : visited ≤ 8
   -- "is 8 only where 7 or a lower number refuses the entry"
   pub refused_at_8 : visited ≡ 8 → (0 < number) × (number ≤ 7)
   -- "and is 0 if the enclosing id isn't standing", and else not
-  pub none_exactly : usable s ≡ true → (visited ≡ 0) ↔ (find within (standing s) ≡ none)
+  pub none_exactly : usable s ≡ true → (visited ≡ 0) ↔ (find within (standing s) ≡ None)
   pub none_when_not_open : usable s ≡ false → visited ≡ 0
 
 -- entering a tank makes the change that it made, with the same number

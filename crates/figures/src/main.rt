@@ -10,94 +10,73 @@
 
 use input::read_full;
 use measure::units::Hundredths;
-use script::calls::Line;
 use script::remarks::Remark;
-use script::{calls, remarks, text, words};
+use script::{calls, text, words};
 use std::io;
 
-// The calls, by the places of their forms (`script::calls::figures_line`); the last is `ballast`.
-const SPACE: usize = 0;
+#[derive(Clone, Copy)]
+enum Call {
+    Space,
+    Hatchways,
+    Ballast,
+}
 
-const HATCHWAYS: usize = 1;
+// By the places of their forms (`script::calls::figures_line`).
+const CALLS: [Call; 3] = [Call::Space, Call::Hatchways, Call::Ballast];
 
 fn main(rt: HostRuntime) -> io::Result<()> {
     let mut script = text::script_buffer();
     let n = read_full(&mut rt.reader(), &mut script)?;
     if text::MOST_BYTES < n {
-        return answer_remark(&rt, Remark::ScriptTooLong);
+        return println!(rt; "{}", Remark::ScriptTooLong);
     }
     answer_lines(&rt, &script[..n])
 }
 
+// A loop of its own, beside that of `survey`, which hands a sheet on.
 fn answer_lines(rt: &impl Print, script: &[u8]) -> io::Result<()> {
-    let mut at = 0;
-    while at < script.len() {
-        let line = words::part_at(script, at, b'\n');
+    for line in script.split(|byte| *byte == b'\n') {
         answer(rt, line)?;
-        at += line.len() + 1;
     }
     Ok(())
 }
 
 fn answer(rt: &impl Print, line: &[u8]) -> io::Result<()> {
-    let is = calls::figures_line(line);
-    match is {
-        Line::Passed => Ok(()),
-        Line::Call(call) => answer_call(rt, line, call),
-        Line::Remarked(remark) => answer_remark(rt, remark),
+    match calls::figures_line(line) {
+        Ok(None) => Ok(()),
+        Ok(Some(place)) => answer_call(rt, line, CALLS[place]),
+        Err(remark) => println!(rt; "{remark}"),
     }
 }
 
-fn answer_call(rt: &impl Print, line: &[u8], call: usize) -> io::Result<()> {
+fn answer_call(rt: &impl Print, line: &[u8], call: Call) -> io::Result<()> {
     match call {
-        SPACE => answer_space(rt, line),
-        HATCHWAYS => answer_hatchways(rt, line),
-        _ => answer_ballast(rt, line),
+        Call::Space => answer_space(rt, line),
+        Call::Hatchways => answer_hatchways(rt, line),
+        Call::Ballast => answer_ballast(rt, line),
     }
-}
-
-fn answer_remark(rt: &impl Print, remark: Remark) -> io::Result<()> {
-    let mut text = [0u8; 32];
-    let n = remarks::remark_text(remark, &mut text);
-    rt.write_all(&text[..n])?;
-    rt.print("\n")
 }
 
 fn answer_space(rt: &impl Print, line: &[u8]) -> io::Result<()> {
     let code = words::code_in(words::word(line, 1));
-    let tonnage_length = words::measure_in(words::word(line, 2));
-    let length = words::measure_in(words::word(line, 3));
+    let tonnage_length = Hundredths(words::measure_in(words::word(line, 2)));
+    let length = Hundredths(words::measure_in(words::word(line, 3)));
     let mut heights = [0u32; 1024];
     let h = words::measures(words::word(line, 4), &mut heights);
     let mut breadths = [0u32; 1024];
     let b = words::measures(words::word(line, 5), &mut breadths);
-    answer_offsets(
-        rt,
+    let offsets = measure::offsets::measure_offsets(
         code,
         tonnage_length,
         length,
         &heights[..h],
         &breadths[..b],
-    )
-}
-
-fn answer_offsets(
-    rt: &impl Print,
-    code: u8,
-    tonnage_length: u32,
-    length: u32,
-    heights: &[u32],
-    breadths: &[u32],
-) -> io::Result<()> {
-    let t = Hundredths(tonnage_length);
-    let l = Hundredths(length);
-    let offsets = measure::offsets::measure_offsets(code, t, l, heights, breadths);
+    );
     let measured = offsets.measured;
-    let divided = measure::thirds::divided(measure::kinds::kind_of(code), t, l);
-    let third = divided.third;
+    let divided = measure::thirds::divided(measure::kinds::kind_of(code), tonnage_length, length);
     println!(rt;
         "{} {} {} {}",
-        measured.number, measured.tonnage, divided.parts, third.0
+        measured.number, measured.tonnage, divided.parts, divided.third.0
     )
 }
 
@@ -113,5 +92,5 @@ fn answer_ballast(rt: &impl Print, line: &[u8]) -> io::Result<()> {
     let ballast = words::value_in(words::word(line, 1));
     let gross = words::value_in(words::word(line, 2));
     let over = measure::allowances::ballast_over(ballast, gross);
-    println!(rt; "{}", over as u8)
+    println!(rt; "{}", u8::from(over))
 }

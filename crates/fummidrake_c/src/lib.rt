@@ -1,5 +1,6 @@
-// What C and Rust link: each export is the call of its name in `fummidrake`, and promises what that one promises. A crate is a library
-// or an archive, not both, so the exports stand here. include/fummidrake.h declares them, with a sentence for each.
+// What C and Rust link: each export is the twin of the call of its name in `fummidrake`, and promises what that one promises. The C
+// interface needs both: a crate is a library or an archive, not both, and only a library can be called by other crates, so the exports
+// stand here. include/fummidrake.h declares them, with a sentence for each.
 #![tactic(auto)]
 
 ghost use Rattle.std.specs.Prelude.{◌≡◌, length};

@@ -15,6 +15,7 @@ pub fn read_full<R: Read>(input: &mut R, buf: &mut [u8]) -> io::Result<usize>
     ensures bytes { IfOk result (λ n. Consumes (R.remaining input.old) (R.remaining input.new) (take n buf.new)) }
     ensures whole { IfOk result (λ n. n < length buf.new → IsAtEnd (R.remaining input.new)) }
 {
+    // No index but the bytes that reads of any length have put so far: `read_exact` says nothing of an input that ends before.
     let mut n = 0;
     while n < buf.len() {
         let more = input.read(&mut buf[n..])?;

@@ -2,31 +2,32 @@
 use Rattle.std.specs.Prelude.{ℕ, ◌+◌, ◌*◌, ◌≤◌, ◌≡◌, List, length, replicate}
 use Rattle.std.proofs.lemmas.List.Edits.{sets}
 use Rattle.listing.specs.Listing.{text_size}
+use Rattle.listing.specs.declared.listing.Listing.{Listing}
 
--- a buffer has room for some bytes from a place on
-abbrev pub Room : List ℕ → ℕ → List ℕ → Type 0
-Room buffer at bytes = at + length bytes ≤ length buffer
+-- a listing has room for some bytes behind its text
+abbrev pub Room : Listing → List ℕ → Type 0
+Room l bytes = l.size + length bytes ≤ text_size
 
--- bytes were stored in a buffer from a place on, and the place behind them was answered
-pub record Put (before : List ℕ) (at : ℕ) (bytes after : List ℕ) (next : ℕ) : Type 0 where
-  pub stored : after ≡ sets before at bytes
-  pub next_is : next ≡ at + length bytes
+-- bytes were put behind its text
+pub record Put (before : Listing) (bytes : List ℕ) (after : Listing) : Type 0 where
+  pub text : after.text ≡ sets before.text before.size bytes
+  pub size : after.size ≡ before.size + length bytes
 
 -- the bytes that a line has at most, by the widths of its numbers
 abbrev pub line_room : ℕ
 line_room = 33
 
 -- the same of some lines, none of them longer than that
-pub record PutLines (before : List ℕ) (at : ℕ) (bytes : List ℕ) (count : ℕ) (after : List ℕ) (next : ℕ) : Type 0 where
-  pub put : Put before at bytes after next
+pub record PutLines (before : Listing) (bytes : List ℕ) (count : ℕ) (after : Listing) : Type 0 where
+  pub put : Put before bytes after
   pub short : length bytes ≤ line_room * count
 
--- a whole text was put at the front of a buffer that has room for any
-pub record PutText (before bytes after : List ℕ) (next : ℕ) : Type 0 where
-  pub put : Put before 0 bytes after next
+-- a whole text was put that has room behind none
+pub record PutText (before : Listing) (bytes : List ℕ) (after : Listing) : Type 0 where
+  pub put : Put before bytes after
   pub fits : length bytes ≤ text_size
 
--- a buffer with no text in it
-pub record Blank (buffer : List ℕ) : Type 0 where
-  pub zeros : buffer ≡ replicate text_size 0
-  pub size : text_size ≡ length buffer
+-- a listing with no text in it
+pub record Blank (l : Listing) : Type 0 where
+  pub zeros : l.text ≡ replicate text_size 0
+  pub none : l.size ≡ 0

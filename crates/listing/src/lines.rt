@@ -1,67 +1,65 @@
-// The lines of a listing, each written from a place on. By the widths of its numbers no line has more than 33 bytes.
-ghost use Rattle.std.specs.Prelude.{◌≡◌, [], ◌∷◌, ◌+◌, ◌*◌, ◌≤◌, length, take};
+// The lines of a listing, each put behind its text. By the widths of its numbers no line has more than 33 bytes.
+ghost use Rattle.std.specs.Prelude.{◌≡◌, [], ◌∷◌, ◌+◌, ◌*◌, ◌≤◌, length};
 ghost use Rattle.measure.specs.Kinds.{kind_of};
 ghost use Rattle.listing.specs.Lines.{letter, figure_line, space_line, space_lines, refusal_line};
+ghost use Rattle.listing.specs.Listing.{text_size};
 ghost use Rattle.listing.specs.Handed.{Room, Put, line_room, PutLines};
 
-use crate::text::{put_byte, put_bytes, put_hundredths, put_number};
+use crate::listing::Listing;
 use measure::kinds::{Kind, kind_of};
 use spaces::space::Space;
 
-// Writes the line of a figure in hundredths: its name, then the figure.
-pub(crate) fn put_figure(buf: &mut [u8], at: usize, name: &[u8], number: u64) -> usize
-    requires { (length name.now ≤ 10) × (at + line_room ≤ length buf.old) }
-    ensures { PutLines buf.old at (figure_line name.now number) 1 buf.new result }
-{
-    let behind = put_bytes(buf, at, name);
-    let figure = put_byte(buf, behind, b' ');
-    put_hundredths(buf, figure, number, b'\n')
-}
-
-// Writes the line of a refused file.
-pub(crate) fn put_refusal(buf: &mut [u8], at: usize, number: u8, position: usize) -> usize
-    requires { at + line_room ≤ length buf.old }
-    ensures { PutLines buf.old at (refusal_line number position) 1 buf.new result }
-{
-    let first = put_bytes(buf, at, b"REFUSED ");
-    let second = put_number(buf, first, number as u64, b' ');
-    put_number(buf, second, position as u64, b'\n')
-}
-
-// Writes the lines of the first `count` spaces.
-pub(crate) fn put_spaces(buf: &mut [u8], at: usize, spaces: [Space; 200], count: usize) -> usize
-    requires { (count ≤ 200) × (at + line_room * count ≤ length buf.old) }
-    ensures { PutLines buf.old at (space_lines (take count spaces)) count buf.new result }
-{
-    let mut i: usize = 0;
-    let mut next = at;
-    while i < count {
-        let x = spaces[i];
-        next = put_space(buf, next, x);
-        i += 1;
+impl Listing {
+    // Puts the line of a figure in hundredths: its name, then the figure.
+    pub(crate) fn put_figure(&mut self, name: &[u8], number: u64)
+        requires { (length name.now ≤ 10) × (self.old.size + line_room ≤ text_size) }
+        ensures { PutLines self.old (figure_line name.now number) 1 self.new }
+    {
+        self.put_bytes(name);
+        self.put_byte(b' ');
+        self.put_hundredths(number, b'\n');
     }
-    next
-}
 
-// Writes the line of a space.
-fn put_space(buf: &mut [u8], at: usize, x: Space) -> usize
-    requires { at + line_room ≤ length buf.old }
-    ensures { PutLines buf.old at (space_line x) 1 buf.new result }
-{
-    let within = put_number(buf, at, x.id as u64, b' ');
-    let kind = put_number(buf, within, x.within as u64, b' ');
-    let standing = put_letter(buf, kind, x.kind, b' ');
-    let tons = put_number(buf, standing, x.standing as u64, b' ');
-    put_hundredths(buf, tons, x.tonnage as u64, b'\n')
-}
+    // Puts the line of a refused file.
+    pub(crate) fn put_refusal(&mut self, number: u8, position: usize)
+        requires { self.old.size + line_room ≤ text_size }
+        ensures { PutLines self.old (refusal_line number position) 1 self.new }
+    {
+        self.put_bytes(b"REFUSED ");
+        self.put_number(u64::from(number), b' ');
+        self.put_number(position as u64, b'\n');
+    }
 
-// Writes the letter of a kind and a byte behind it.
-fn put_letter(buf: &mut [u8], at: usize, code: u8, behind: u8) -> usize
-    requires { Room buf.old at (letter (kind_of code) ∷ behind ∷ []) }
-    ensures { Put buf.old at (letter (kind_of code) ∷ behind ∷ []) buf.new result }
-{
-    let end = put_byte(buf, at, letter_of(kind_of(code)));
-    put_byte(buf, end, behind)
+    // Puts the lines of some spaces.
+    pub(crate) fn put_spaces(&mut self, spaces: &[Space])
+        requires { self.old.size + line_room * length spaces.now ≤ text_size }
+        ensures { PutLines self.old (space_lines spaces.now) (length spaces.now) self.new }
+    {
+        for x in spaces {
+            self.put_space(*x);
+        }
+    }
+
+    // Puts the line of a space.
+    fn put_space(&mut self, x: Space)
+        requires { self.old.size + line_room ≤ text_size }
+        ensures { PutLines self.old (space_line x) 1 self.new }
+    {
+        self.put_number(u64::from(x.id), b' ');
+        self.put_number(u64::from(x.within), b' ');
+        self.put_letter(x.kind, b' ');
+        self.put_number(u64::from(x.standing), b' ');
+        self.put_hundredths(u64::from(x.tonnage), b'\n');
+    }
+
+    // Puts the letter of a kind and a byte behind it.
+    fn put_letter(&mut self, code: u8, behind: u8)
+        requires { Room self.old (letter (kind_of code) ∷ behind ∷ []) }
+        ensures { Put self.old (letter (kind_of code) ∷ behind ∷ []) self.new }
+    {
+        self.put_byte(letter_of(kind_of(code)));
+        self.put_byte(behind);
+    }
 }
 
 // The letter of a kind; a question mark where a code stood for none, which no sheet that is read holds.

@@ -1,12 +1,7 @@
 -- What a decimal is: digits that give the number back, with no zero in front of it; and nothing else is. What hundredths are.
-use Prim.Native.Nat.{ℕ, zero, suc, ◌+◌, ◌*◌, ◌-◌, ◌/◌, ◌≤◌, ◌<◌}
+use Rattle.std.proofs.Common.{ℕ, zero, suc, ◌+◌, ◌*◌, ◌-◌, ◌/◌, ◌≤◌, ◌<◌, ◌≡◌, refl, sym, ap, ◌∙◌, List, [], ◌∷◌, ◌++◌, arith, eqb-true, ltb-true, ltb-false, eqb, ltb, length, get_or}
 use Prim.Native.Char.{code}
-use mathlib.Core.Path.{◌≡◌, refl, sym, ap, ◌∙◌}
-use mathlib.Core.List.{List, [], ◌∷◌, ◌++◌}
-use native.Mathlib.Omega.{arith}
-use borrow.Author.Tests.{eqb-true, eqb-false, ltb-true, ltb-false}
-use lib.Dec.{eqb, ltb}
-use lib.ListN.{length, get_or}
+use borrow.Author.Tests.{eqb-false}
 use Rattle.spaces.proofs.Laws.Cases.{by_test}
 use Rattle.listing.specs.Text.{digit, decimal, hundredths}
 use Rattle.listing.proofs.Laws.Decimal.{decimal_one, decimal_more}

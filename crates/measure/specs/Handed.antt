@@ -1,10 +1,13 @@
 -- What the functions inside the crate ask of their callers. No promise of a public function cites anything here.
-use Rattle.std.specs.Prelude.{ℕ, ◌+◌, ◌*◌, ◌≤◌, ◌<◌, ◌≡◌, Bool, true, List, [], ◌∷◌, length, take}
+use Rattle.std.specs.Prelude.{ℕ, ◌+◌, ◌*◌, ◌≤◌, ◌<◌, ◌≡◌, true, List, [], ◌∷◌, length, Result, Ok, Err}
 use Rattle.measure.specs.Parts.{EvenParts}
-use Rattle.measure.specs.Sections.{doubled, sections}
+use Rattle.measure.specs.Sections.{layout_of, sections}
 use Rattle.measure.specs.Offsets.{in_range, counted}
+use Rattle.measure.specs.Tanks.{lay_out_number}
 use Rattle.measure.specs.declared.units.Hundredths.{Hundredths}
 use Rattle.measure.specs.declared.kinds.Kind.{Kind}
+use Rattle.measure.specs.declared.offsets.Offsets.{Offsets}
+use Rattle.measure.specs.declared.refusals.Refusal.{Refusal}
 use Rattle.measure.specs.declared.sections.Layout.{Layout}
 
 -- the greatest tonnage that a record holds, "which no entry from offsets in range can pass" ("The file")
@@ -54,10 +57,10 @@ pub record Laid (a : Layout) : Type 0 where
   pub of_u : a.n ≤ 16
   pub of_tank : EvenParts a.p
 
--- which stations are doubled, in the first places
-pub record Doubled (a : Layout) (two : List Bool) : Type 0 where
-  pub laid : Laid a
-  pub first_are : take (a.p + 1) two ≡ doubled a
+-- how a tank lies along its U of length u, or the number, not 0, with which it is refused
+abbrev pub LaidOrRefused : Hundredths → Hundredths → Hundredths → Hundredths → Result Layout Refusal → Type 0
+LaidOrRefused t u l f (Ok a) = (lay_out_number t u l f ≡ 0) × (a ≡ layout_of t u l f) × Laid a
+LaidOrRefused t u l f (Err refusal) = (lay_out_number t u l f ≡ refusal.0) × (0 < refusal.0)
 
 -- a tank with as many sections as are asked
 pub record TankHanded (a : Layout) (m : ℕ) (depths breadths : List ℕ) : Type 0 where
@@ -81,6 +84,10 @@ pub record BoxHanded (l : Hundredths) (heights breadths : List ℕ) : Type 0 whe
   pub count : 0 < length breadths
   pub high : AllAtMost 20000 heights
   pub broad : AllAtMost 30000 breadths
+
+-- of offsets what a definition says of their parts
+abbrev pub of_offsets : {A : Type 0} → (Kind → Hundredths → Hundredths → List ℕ → List ℕ → A) → Offsets → A
+of_offsets f o = f o.kind o.tonnage_length o.length o.heights.now o.breadths.now
 
 -- offsets of which neither 2 nor 3 applies
 pub record Taken (k : Kind) (t l : Hundredths) (hs bs : List ℕ) : Type 0 where

@@ -3,7 +3,7 @@ ghost use Rattle.std.specs.Prelude.{◌≡◌};
 ghost use Rattle.measure.specs.Ends.{end_areas};
 
 use crate::kinds::Kind;
-use crate::offsets::{counted, in_range, middle_of};
+use crate::offsets::{Offsets, middle_of};
 use crate::parts::of_depth;
 use crate::units::Hundredths;
 use crate::volumes::section_areas;
@@ -15,7 +15,8 @@ pub struct EndAreas {
     pub aft: u32,
 }
 
-// Of a U's offsets, as `measure::offsets::measure_offsets` takes them; 0 and 0 where that refuses them.
+// Of a U's offsets, as `measure::offsets::measure_offsets` takes them; 0 and 0 where that refuses them, as the definition has it.
+#[tactic(auto, unfolding(crate::specs::Ends::end_areas), using(crate::proofs::Laws::Ends::ends_read))]
 pub fn end_areas(
     tonnage_length: Hundredths,
     length: Hundredths,
@@ -24,10 +25,14 @@ pub fn end_areas(
 ) -> EndAreas
     ensures { result ≡ end_areas tonnage_length length depths.now breadths.now }
 {
-    if !in_range(Kind::UnderDeck, tonnage_length, length, depths, breadths) {
-        return EndAreas { fore: 0, aft: 0 };
-    }
-    if !counted(Kind::UnderDeck, tonnage_length, length, depths, breadths) {
+    let offsets = Offsets {
+        kind: Kind::UnderDeck,
+        tonnage_length,
+        length,
+        heights: depths,
+        breadths,
+    };
+    if !offsets.in_range() || !offsets.counted() {
         return EndAreas { fore: 0, aft: 0 };
     }
     let areas = section_areas(of_depth(middle_of(depths)), depths, breadths);

@@ -2,7 +2,7 @@
 ghost use Rattle.std.specs.Prelude.{◌≡◌};
 ghost use Rattle.measure.specs.Kinds.{kind_of, is_kind};
 
-// The codes of the table.
+// The codes of the table. Numbers, beside the enum of the kinds, since the records that C and the file hold have a code (spaces/src/space.rt).
 pub const UNDER_DECK: u8 = 1;
 
 pub const BETWEEN_DECK: u8 = 2;
@@ -20,11 +20,11 @@ pub enum Kind {
     Superstructure,
     Hatchway,
     Room,
-    // Any other code.
+    // Any other code. A variant and no `Option`, since what the public functions promise of such a code speaks of it (specs/Kinds).
     NoKind,
 }
 
-// The kind that a code stands for.
+// The kind that a code stands for. A function and no `From`, since the theorems on codes hold it by its name (demands, NoSecondAnswer).
 #[tactic(auto, unfolding(crate::specs::Kinds::kind_of))]
 pub fn kind_of(code: u8) -> Kind
     ensures { result ≡ kind_of code }
@@ -43,12 +43,5 @@ pub fn kind_of(code: u8) -> Kind
 pub(crate) fn is_kind(kind: Kind) -> bool
     ensures { result ≡ is_kind kind }
 {
-    match kind {
-        Kind::UnderDeck => true,
-        Kind::BetweenDeck => true,
-        Kind::Superstructure => true,
-        Kind::Hatchway => true,
-        Kind::Room => true,
-        Kind::NoKind => false,
-    }
+    !matches!(kind, Kind::NoKind)
 }

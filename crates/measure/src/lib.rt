@@ -3,6 +3,10 @@
 //
 // No public function asks anything of its caller: each takes any numbers and any lists, ends, and answers what its
 // definition in specs/ says. Only the functions inside the crate have a `requires`.
+//
+// What is found for each of some stations or sections lies in the first places of an array: the project has no heap, and there are at most
+// 17 stations and 34 sections. Each is set by its place, since a proof has no name for what an array holds after a `zip` with `iter_mut`.
+// Casts stand where Rust has no `From` (to or from `usize`, to a narrower type or a sign): each is proved to lose nothing.
 #![tactic(auto)]
 
 pub mod allowances;

@@ -5,11 +5,27 @@ ghost use Rattle.measure.specs.Ranges.{includes as includes_of, includes_all, le
 use crate::kinds::Kind;
 use crate::units::Hundredths;
 
-// From the least to the most, both included.
+// From the least to the most, both included. Each range has a function, as it has a definition (specs/Ranges); what they share is this
+// type's two fields, and a function that took them would say no more.
 #[derive(Clone, Copy)]
 pub struct Range {
     pub least: u32,
     pub most: u32,
+}
+
+impl Range {
+    #[tactic(auto, unfolding(crate::specs::Ranges::includes))]
+    fn includes(self, x: u32) -> bool
+        ensures { result ≡ includes_of self x }
+    {
+        (self.least..=self.most).contains(&x)
+    }
+
+    pub(crate) fn includes_all(self, xs: &[u32]) -> bool
+        ensures { result ≡ includes_all self xs.now }
+    {
+        xs.iter().all(|x| self.includes(*x))
+    }
 }
 
 // The least tonnage length, U length and B length, and the greatest of any length.
@@ -43,12 +59,8 @@ fn lengths(kind: Kind) -> Range
     ensures { result ≡ lengths_of kind }
 {
     match kind {
-        Kind::UnderDeck => tonnage_lengths(),
-        Kind::BetweenDeck => tonnage_lengths(),
-        Kind::Superstructure => other_lengths(),
-        Kind::Hatchway => other_lengths(),
-        Kind::Room => other_lengths(),
-        Kind::NoKind => other_lengths(),
+        Kind::UnderDeck | Kind::BetweenDeck => tonnage_lengths(),
+        _ => other_lengths(),
     }
 }
 
@@ -74,45 +86,20 @@ fn least_offset(kind: Kind) -> u32
     ensures { result ≡ least_offset kind }
 {
     match kind {
-        Kind::UnderDeck => 0,
-        Kind::BetweenDeck => 0,
-        Kind::Superstructure => 0,
-        Kind::Hatchway => 1,
-        Kind::Room => 1,
-        Kind::NoKind => 0,
+        Kind::Hatchway | Kind::Room => 1,
+        _ => 0,
     }
-}
-
-fn includes(range: Range, x: u32) -> bool
-    ensures { result ≡ includes_of range x }
-{
-    if x < range.least {
-        return false;
-    }
-    x <= range.most
-}
-
-pub(crate) fn includes_all(range: Range, xs: &[u32]) -> bool
-    ensures { result ≡ includes_all range xs.now }
-{
-    let mut i = 0;
-    while i < xs.len() {
-        if !includes(range, xs[i]) {
-            return false;
-        }
-        i += 1;
-    }
-    true
 }
 
 // Whether a tonnage length is in its range.
 pub fn tonnage_length_fits(length: Hundredths) -> bool
     ensures { result ≡ includes_of tonnage_lengths length.0 }
 {
-    includes(tonnage_lengths(), length.0)
+    tonnage_lengths().includes(length.0)
 }
 
 // Whether the distance of a tank's fore end along its U is in its range.
+#[tactic(auto, unfolding(crate::specs::Ranges::includes))]
 pub(crate) fn fore_fits(fore: Hundredths) -> bool
     ensures { result ≡ includes_of fores fore.0 }
 {
@@ -123,5 +110,5 @@ pub(crate) fn fore_fits(fore: Hundredths) -> bool
 pub fn length_fits(kind: Kind, length: Hundredths) -> bool
     ensures { result ≡ includes_of (lengths_of kind) length.0 }
 {
-    includes(lengths(kind), length.0)
+    lengths(kind).includes(length.0)
 }

@@ -26,16 +26,14 @@ pub fn none() -> Roundings
 }
 
 // The roundings of the depths at stations, each in so many parts.
+#[tactic(auto, unfolding(crate::specs::Roundings::of_depths))]
 pub(crate) fn of_depths(parts: usize, depths: &[u32]) -> [i8; 17]
     requires { (1 ≤ parts) × (parts ≤ 16) × (length_of depths.now ≤ 17) }
     ensures { result ≡ of_depths parts depths.now }
 {
-    let mut found = [0i8; 17];
-    let mut i = 0;
-    while i < depths.len() {
-        let depth = depths[i];
-        found[i] = rounding_of_depth(Hundredths(depth), parts);
-        i += 1;
+    let mut found = [0; 17];
+    for (i, depth) in depths.iter().enumerate() {
+        found[i] = rounding_of_depth(Hundredths(*depth), parts);
     }
     found
 }

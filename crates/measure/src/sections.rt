@@ -1,14 +1,15 @@
 // The sections of a tank (69.117(g)(3)(ii), (iii)): how its stations lie among the zones of influence of its U. Points of the U are told
 // times 3 n p, so that they and the ends of zones are whole numbers and compared exactly.
-ghost use Rattle.std.specs.Prelude.{◌≡◌, cond, ◌||◌, ◌+◌, ◌*◌, ◌^◌, ◌≤◌, ◌<◌, take, get_or};
+ghost use Rattle.std.specs.Prelude.{◌≡◌, ◌+◌, ◌*◌, ◌^◌, ◌≤◌, ◌<◌, length, take, get_or};
 ghost use Rattle.measure.specs.Sections.{layout_of, zone_of_station, between_zones, doubled as doubled_of, sections_over, section_zones};
 ghost use Rattle.measure.specs.Handed.{Laid};
 
 use crate::multipliers::multiplier;
 use crate::parts::{nearest_parts, of_under_deck};
-use crate::units::{Hundredths, wide};
+use crate::units::Hundredths;
 
-// How a tank lies along its U.
+// How a tank lies along its U. No ghost field says that n and p are numbers of parts (`Laid`): the definitions build layouts of any
+// numbers (specs/Sections `layout_of`), and a ghost field would ask its proof of them.
 #[derive(Clone, Copy)]
 pub struct Layout {
     // The parts and the length of the U.
@@ -29,6 +30,7 @@ pub(crate) struct Zoned {
 }
 
 // A tank is divided as an S is, with the U's interval as the reference.
+#[tactic(auto, unfolding(crate::specs::Sections::layout_of), using(crate::proofs::Laws::Parts::under_deck_most, crate::proofs::Laws::Parts::nearest_even))]
 pub(crate) fn layout_of(
     tonnage_length: Hundredths,
     u: Hundredths,
@@ -42,102 +44,80 @@ pub(crate) fn layout_of(
     Layout { n, u, p, l, f }
 }
 
-// Tank station j, from 0, along the U.
-fn station_at(a: Layout, j: usize) -> u64
-    requires { Laid a × (j ≤ 16) }
-    ensures { result ≡ (a.f.0 * a.p + j * a.l.0) * (3 * a.n) }
-{
-    (wide(a.f.0) * (a.p as u64) + (j as u64) * wide(a.l.0)) * (3 * (a.n as u64))
-}
-
-// A third of the U's interval.
-fn third_of_interval(a: Layout) -> u64
-    requires { Laid a }
-    ensures { (result ≡ a.u.0 * a.p) × (result < 2 ^ 36) }
-{
-    wide(a.u.0) * (a.p as u64)
-}
-
-// Tank station j, from 0, among the zones: that of station k ends where the first k multipliers, added up, end.
-fn zone_of(a: Layout, j: usize) -> Zoned
-    requires { Laid a × (j ≤ 16) }
-    ensures { (result ≡ record { zone = zone_of_station a j; between = between_zones a j }) × (result.zone ≤ 17) }
-{
-    let point = station_at(a, j);
-    let third = third_of_interval(a);
-    let mut end: u64 = 0;
-    let mut zone = 1;
-    let mut between = false;
-    let mut k = 0;
-    while k < a.n {
-        end += multiplier(a.n, k + 1) * third;
-        zone += one_if(end < point);
-        between = either(point == end, between);
-        k += 1;
+impl Layout {
+    // Tank station j, from 0, along the U.
+    #[tactic(auto, using(crate::proofs::Laws::Products::point_fits, crate::proofs::Laws::Parts::most))]
+    fn station_at(self, j: usize) -> u64
+        requires { Laid self × (j ≤ 16) }
+        ensures { result ≡ (self.f.0 * self.p + j * self.l.0) * (3 * self.n) }
+    {
+        (u64::from(self.f.0) * (self.p as u64) + (j as u64) * u64::from(self.l.0))
+            * (3 * (self.n as u64))
     }
-    Zoned { zone, between }
-}
 
-// 1 where a test holds, else 0.
-pub(crate) fn one_if(test: bool) -> usize
-    ensures { (result ≡ cond test 1 0) × (result ≤ 1) }
-{
-    if test { 1 } else { 0 }
-}
-
-fn either(a: bool, b: bool) -> bool
-    ensures { result ≡ (a || b) }
-{
-    if a {
-        return true;
+    // A third of the U's interval.
+    fn third_of_interval(self) -> u64
+        requires { Laid self }
+        ensures { (result ≡ self.u.0 * self.p) × (result < 2 ^ 36) }
+    {
+        u64::from(self.u.0) * (self.p as u64)
     }
-    b
-}
 
-// Which of the tank's stations, at most 17, fall exactly between two zones: from the bow, in the first places.
-pub(crate) fn doubled(a: Layout) -> [bool; 17]
-    requires { Laid a }
-    ensures { take (a.p + 1) result ≡ doubled_of a }
-{
-    let mut two = [false; 17];
-    let mut j = 0;
-    while j <= a.p {
-        let at = zone_of(a, j);
-        two[j] = at.between;
-        j += 1;
-    }
-    two
-}
-
-// How many sections the first stations ask, of which these are doubled: one each, and one more where doubled.
-pub(crate) fn sections_over(two: [bool; 17], stations: usize) -> usize
-    requires { stations ≤ 17 }
-    ensures { result ≡ sections_over (take stations two) }
-{
-    let mut count = 0;
-    let mut j = 0;
-    while j < stations {
-        count += 1 + one_if(two[j]);
-        j += 1;
-    }
-    count
-}
-
-// The number, from 1, of the under-deck station in whose zone section i, from 0, falls; 0 where there is no such section.
-pub(crate) fn section_zone(a: Layout, i: usize) -> usize
-    requires { Laid a }
-    ensures { result ≡ get_or (section_zones a) i 0 }
-{
-    let mut first = 0;
-    let mut j = 0;
-    while j <= a.p {
-        let at = zone_of(a, j);
-        let next = first + (1 + one_if(at.between));
-        if i < next {
-            return at.zone + (i - first);
+    // Tank station j, from 0, among the zones: that of station k ends where the first k multipliers, added up, end.
+    fn zone_of(self, j: usize) -> Zoned
+        requires { Laid self × (j ≤ 16) }
+        ensures { (result ≡ record { zone = zone_of_station self j; between = between_zones self j }) × (result.zone ≤ 17) }
+    {
+        let point = self.station_at(j);
+        let third = self.third_of_interval();
+        let mut end = 0;
+        let mut zone = 1;
+        let mut between = false;
+        for k in 0..self.n {
+            end += multiplier(self.n, k + 1) * third;
+            zone += usize::from(end < point);
+            between |= point == end;
         }
-        first = next;
-        j += 1;
+        Zoned { zone, between }
     }
-    0
+
+    // Which of the tank's stations, at most 17, fall exactly between two zones: from the bow, in the first places.
+    #[tactic(auto, using(crate::proofs::Laws::Parts::most))]
+    pub(crate) fn doubled(self) -> [bool; 17]
+        requires { Laid self }
+        ensures { take (self.p + 1) result ≡ doubled_of self }
+    {
+        let mut two = [false; 17];
+        for j in 0..self.p + 1 {
+            two[j] = self.zone_of(j).between;
+        }
+        two
+    }
+
+    // The number, from 1, of the under-deck station in whose zone section i, from 0, falls; 0 where there is no such section.
+    #[tactic(auto, unfolding(crate::specs::Sections::section_zones))]
+    pub(crate) fn section_zone(self, i: usize) -> usize
+        requires { Laid self }
+        ensures { result ≡ get_or (section_zones self) i 0 }
+    {
+        let mut first = 0;
+        for j in 0..self.p + 1 {
+            let at = self.zone_of(j);
+            let next = first + 1 + usize::from(at.between);
+            if i < next {
+                return at.zone + (i - first);
+            }
+            first = next;
+        }
+        0
+    }
+}
+
+// How many sections stations ask, of which these are doubled: one each, and one more where doubled.
+#[tactic(auto, using(crate::proofs::Laws::Sections::sections_sum))]
+pub(crate) fn sections_over(two: &[bool]) -> usize
+    requires { length two.now ≤ 17 }
+    ensures { result ≡ sections_over two.now }
+{
+    two.iter().map(|doubled| 1 + usize::from(*doubled)).sum()
 }

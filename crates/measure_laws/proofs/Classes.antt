@@ -1,10 +1,6 @@
 -- The classes of a length, step parts and multipliers: each definition gives what its declarative statement says, and nothing else does.
-use Prim.Native.Nat.{ℕ, ◌+◌, ◌%◌, ◌≤◌}
-use mathlib.Core.Path.{◌≡◌, refl, sym}
-use mathlib.Core.Bool.{Bool, true, false, cond}
-use native.Mathlib.Omega.{arith}
-use borrow.Author.Tests.{leb-true, leb-false, ltb-true, ltb-false, eqb-true, eqb-false, le-leb, lt-leb, lt-ltb, le-ltb, eq-eqb, ne_eqb}
-use lib.Dec.{leb, ltb, eqb}
+use Rattle.std.proofs.Common.{ℕ, ◌+◌, ◌%◌, ◌≤◌, ◌≡◌, refl, sym, Bool, true, false, cond, arith, leb-true, leb-false, ltb-true, ltb-false, eqb-true, le-leb, lt-ltb, le-ltb, eq-eqb, ne_eqb, leb, ltb, eqb}
+use borrow.Author.Tests.{eqb-false, lt-leb}
 use Rattle.measure.specs.Parts.{table_parts, ByTable, up_to_50, over_50_to_100, over_100_to_150, over_150_to_200, over_200_to_250, over_250, step_parts, ByStep, of_20_or_under, over_20_under_40, of_40_or_over}
 use Rattle.measure.specs.Multipliers.{multiplier, Counts, first_once, last_once, even_four_times, other_odd_twice}
 use Rattle.measure.specs.declared.units.Hundredths.{Hundredths}

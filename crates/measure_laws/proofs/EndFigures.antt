@@ -1,8 +1,6 @@
 -- Areas at the ends of a U, worked by hand from document 01's rules (T-02). Breadths and third intervals are hundredths of a foot, so areas
 -- are ten-thousandths of a square foot.
-use mathlib.Core.Path.{◌≡◌, refl}
-use mathlib.Core.List.{[], ◌∷◌, ◌++◌}
-use lib.ListN.{replicate}
+use Rattle.std.proofs.Common.{◌≡◌, refl, [], ◌∷◌, ◌++◌, replicate}
 use Rattle.measure.specs.Kinds.{kind_of}
 use Rattle.measure.specs.Rounding.{nearest}
 use Rattle.measure.specs.Parts.{table_parts, step_parts, under_deck_parts, depth_parts}

@@ -1,9 +1,5 @@
 -- The ends of a U: which areas are its ends', that its volume sums the same list, and what its ends weigh in it. Stands on Classes.
-use Prim.Native.Nat.{ℕ, suc, ◌+◌, ◌*◌, ◌-◌, ◌<◌}
-use mathlib.Core.Path.{◌≡◌, refl, sym, ap, ap₂, ◌∙◌}
-use mathlib.Core.List.{List, [], ◌∷◌, ◌++◌}
-use native.Mathlib.Omega.{arith}
-use lib.ListN.{length, take, drop, get_or, length-append, drop_of_length-le}
+use Rattle.std.proofs.Common.{ℕ, suc, ◌+◌, ◌*◌, ◌-◌, ◌<◌, ◌≡◌, refl, sym, ap, ap₂, ◌∙◌, List, [], ◌∷◌, ◌++◌, arith, length, take, drop, get_or, length-append, drop_of_length-le}
 use lib.Seq.{split_at, get_or_at}
 use Rattle.measure.specs.Kinds.{kind_of}
 use Rattle.measure.specs.Parts.{under_deck_parts, depth_parts}

@@ -1,7 +1,5 @@
 -- The starred figures of document 01 that this floor sees, as one table about the definitions.
-use mathlib.Core.Path.{◌≡◌, refl}
-use mathlib.Core.Bool.{true, false}
-use lib.ListN.{replicate}
+use Rattle.std.proofs.Common.{◌≡◌, refl, true, false, replicate}
 use Rattle.measure.specs.Kinds.{kind_of}
 use Rattle.measure.specs.Rounding.{nearest}
 use Rattle.measure.specs.Parts.{table_parts, step_parts, under_deck_parts, depth_parts, distance, nearer, nearest_parts, superstructure_parts}

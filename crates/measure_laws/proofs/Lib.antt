@@ -5,6 +5,7 @@ pub mod Classes
 pub mod Stations
 pub mod Zones
 pub mod Refusals
+pub mod Last
 pub mod Offsets
 pub mod Ends
 pub mod Tanks

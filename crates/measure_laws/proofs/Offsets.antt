@@ -1,10 +1,6 @@
 -- One space's answer: refused with 2 exactly where a kind or measure is outside its range, with 3 exactly where that isn't so and a
 -- count is wrong, and else accepted with the tonnage, which is at most 100,000,000.
-use mathlib.Core.Path.{◌≡◌, refl}
-use mathlib.Core.Bool.{Bool, true, false, not}
-use mathlib.Core.List.{List, [], ◌∷◌}
-use Prim.Native.Nat.{ℕ, ◌≤◌, zero-le}
-use native.Mathlib.Omega.{arith}
+use Rattle.std.proofs.Common.{◌≡◌, refl, Bool, true, false, not, List, [], ◌∷◌, ℕ, ◌≤◌, zero-le, arith}
 use Rattle.measure.specs.Kinds.{kind_of}
 use Rattle.measure.specs.Refusals.{first_of}
 use Rattle.measure.specs.Offsets.{in_range, counted, tonnage, measured, answered, Exactly}

@@ -1,9 +1,5 @@
 -- "The lowest number that applies is given": `first_of` is n exactly where test n applies and none before it.
-use mathlib.Core.Path.{◌≡◌, refl}
-use mathlib.Core.Logic.{◌⊎◌, inl, inr, ⊎_elim}
-use mathlib.Core.Bool.{Bool, true, false, cond}
-use mathlib.Core.List.{List, [], ◌∷◌}
-use Prim.Native.Nat.{ℕ}
+use Rattle.std.proofs.Common.{◌≡◌, refl, ◌⊎◌, inl, inr, ⊎_elim, Bool, true, false, cond, List, [], ◌∷◌, ℕ}
 use Rattle.measure.specs.Refusals.{first_of, Refuse, here, later, Accept, none, next}
 
 pub refused_with : {tests : List (Bool × ℕ)} {n : ℕ} → Refuse tests n → first_of tests ≡ n

@@ -1,9 +1,6 @@
 -- `nearest` is within a half, the greater on a half, and nothing else is.
-use mathlib.Core.Path.{◌≡◌}
-use mathlib.Core.Logic.{⊎_elim}
-use Prim.Native.Nat.{ℕ, ◌+◌, ◌*◌, ◌≤◌, ◌<◌}
-use native.Mathlib.Nat.{div-eq_of_lt-le, eq-or-lt_of_le, mul_comm, mul_left_comm, add-mul}
-use native.Mathlib.Omega.{arith}
+use Rattle.std.proofs.Common.{◌≡◌, ⊎_elim, ℕ, ◌+◌, ◌*◌, ◌≤◌, ◌<◌, eq-or-lt_of_le, mul_comm, mul_left_comm, add-mul, arith}
+use native.Mathlib.Nat.{div-eq_of_lt-le}
 use Rattle.measure.specs.Rounding.{nearest, Nearest}
 use Rattle.measure.proofs.Laws.Rounding.{nearest_within}
 

@@ -1,9 +1,6 @@
 -- Roundings worked by hand from document 01's rules (T-04). A rounding counts parts of the exact divisor: of a third interval of length parts of
 -- 1/(3n) of a thousandth of a foot, of one of depth parts of 1/(3m) of a hundredth.
-use mathlib.Core.Path.{◌≡◌, refl}
-use mathlib.Core.List.{[], ◌∷◌}
-use lib.IntN.{pos, negsuc}
-use lib.ListN.{replicate}
+use Rattle.std.proofs.Common.{◌≡◌, refl, [], ◌∷◌, pos, negsuc, replicate}
 use Rattle.measure.specs.Kinds.{kind_of}
 use Rattle.measure.specs.Rounding.{nearest}
 use Rattle.measure.specs.Parts.{table_parts, step_parts, under_deck_parts, depth_parts, distance, nearer, nearest_parts, superstructure_parts}

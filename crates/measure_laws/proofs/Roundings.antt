@@ -1,16 +1,9 @@
 -- What the rounding did (T-04): a third interval and its rounding are the only two numbers that give the exact fraction back with a rounding
 -- of at most a half; its sign; and the roundings that a space passes on, a place at a time.
-use Prim.Native.Nat.{ℕ, zero, suc, ◌+◌, ◌-◌, ◌*◌, ◌%◌, ◌≤◌, ◌<◌}
-use mathlib.Core.Path.{◌≡◌, refl, sym, ap, ◌∙◌}
-use mathlib.Core.Logic.{◌↔◌}
-use mathlib.Core.List.{List, [], ◌∷◌, ◌++◌, map}
-use native.Mathlib.Nat.{mul_comm, div-add-mod', mul-mod_right}
-use native.Mathlib.Omega.{arith}
-use borrow.Author.Tests.{ne_eqb}
-use lib.Dec.{le→leb, lt→ltb, leb→le, ltb→lt}
-use lib.IntN.{ℤ, pos, negsuc, nat_abs, ◌-ℤ◌, pos-ne-negsuc}
-use lib.ListN.{length, get_or, replicate, length-append, length-map, length-replicate}
-use lib.Seq.{ext_get_or}
+use Rattle.std.proofs.Common.{ℕ, zero, suc, ◌+◌, ◌-◌, ◌*◌, ◌%◌, ◌≤◌, ◌<◌, ◌≡◌, refl, sym, ap, ◌∙◌, ◌↔◌, List, [], ◌∷◌, ◌++◌, map, mul_comm, div-add-mod', arith, ne_eqb, le→leb, lt→ltb, leb→le, ltb→lt, ℤ, pos, negsuc, nat_abs, ◌-ℤ◌, length, get_or, replicate, length-append, ext_get_or}
+use native.Mathlib.Nat.{mul-mod_right}
+use lib.IntN.{pos-ne-negsuc}
+use lib.ListN.{length-map, length-replicate}
 use Rattle.measure.specs.Kinds.{kind_of}
 use Rattle.measure.specs.Rounding.{nearest}
 use Rattle.measure.specs.Parts.{parts_of, depth_parts}

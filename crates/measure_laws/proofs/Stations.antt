@@ -1,12 +1,6 @@
 -- The stations of a space: which breadths are a station's, which station is the middle one, and what equal values weigh.
-use Prim.Native.Nat.{ℕ, zero, suc, ◌+◌, ◌*◌, ◌/◌, ◌<◌}
-use mathlib.Core.Path.{◌≡◌, sym, ap, ◌∙◌}
-use mathlib.Core.List.{List, [], ◌∷◌, ◌++◌}
-use native.Mathlib.Nat.{zero-add, add-zero, zero-mul, suc-mul, add-mul}
-use native.Mathlib.Numerals.{add-one}
-use native.Mathlib.Omega.{arith}
-use lib.ListN.{length, take, drop, get_or, replicate, length-append, length-drop}
-use lib.Seq.{drop-drop, split_at, get_or_at, ext_get_or, length-take-le}
+use Rattle.std.proofs.Common.{ℕ, zero, suc, ◌+◌, ◌*◌, ◌/◌, ◌<◌, ◌≡◌, sym, ap, ◌∙◌, List, [], ◌∷◌, ◌++◌, zero-add, add-zero, zero-mul, suc-mul, add-mul, add-one, arith, length, take, drop, get_or, replicate, length-append, length-drop, drop-drop, ext_get_or, length-take-le}
+use lib.Seq.{split_at, get_or_at}
 use Rattle.measure.specs.Parts.{EvenParts}
 use Rattle.measure.specs.Multipliers.{multiplier, weighted_from, weighted}
 use Rattle.measure.specs.Zones.{zone_end}

@@ -1,7 +1,5 @@
 -- Figures of tanks (T-01), as one table about the definitions.
-use mathlib.Core.Path.{◌≡◌, refl}
-use mathlib.Core.List.{[], ◌∷◌}
-use lib.ListN.{replicate}
+use Rattle.std.proofs.Common.{◌≡◌, refl, [], ◌∷◌, replicate}
 use Rattle.measure.specs.Rounding.{nearest}
 use Rattle.measure.specs.Parts.{table_parts, under_deck_parts, distance, nearer, nearest_parts}
 use Rattle.measure.specs.Thirds.{third_of_length, third_of_depth}

@@ -1,13 +1,6 @@
 -- Tanks: the areas that stations take, how many sections are asked, the tank that is the whole U, and what is answered.
-use mathlib.Core.Path.{◌≡◌, refl, sym, ap, ap₂, ◌∙◌}
-use mathlib.Core.Bool.{Bool, true, false, cond, not, ◌&&◌, ◌||◌}
-use mathlib.Core.List.{List, [], ◌∷◌}
-use Prim.Native.Nat.{ℕ, zero, suc, ◌+◌, ◌*◌, ◌≤◌, ◌<◌, zero-le}
-use native.Mathlib.Nat.{le_of_lt, le_antisymm, mul-le-mul_right, mul_comm, add-mul, zero-add, zero-mul, mul-pos, mul-mul-mul_comm, eq_of_mul-eq-mul_right}
-use native.Mathlib.Omega.{arith}
-use borrow.Author.Tests.{leb-true, leb-false, le-leb, ltb-false}
-use lib.Dec.{leb, eqb}
-use lib.ListN.{length, replicate, length-append}
+use Rattle.std.proofs.Common.{◌≡◌, refl, sym, ap, ap₂, ◌∙◌, Bool, true, false, cond, not, ◌&&◌, ◌||◌, List, [], ◌∷◌, ℕ, zero, suc, ◌+◌, ◌*◌, ◌≤◌, ◌<◌, zero-le, le_of_lt, le_antisymm, mul-le-mul_right, mul_comm, add-mul, zero-add, zero-mul, mul-pos, arith, leb-true, leb-false, le-leb, ltb-false, leb, eqb, length, replicate, length-append}
+use native.Mathlib.Nat.{mul-mul-mul_comm, eq_of_mul-eq-mul_right}
 use Rattle.measure.specs.Parts.{under_deck_parts, depth_parts, nearest_parts}
 use Rattle.measure.specs.Zones.{zone_end, Point}
 use Rattle.measure.specs.Sections.{layout_of, station_at, between_zones, between_from, doubled, sections_over, sections, zone_of_station, zones_at, zones_from, section_zones}

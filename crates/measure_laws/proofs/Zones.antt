@@ -1,14 +1,6 @@
 -- The zones of influence fill the length, each with its station; every point of the U lies in the zone that `zone_of` gives, in the next too
 -- where `between` says so, and in no other.
-use mathlib.Core.Path.{◌≡◌, refl, sym, ap, subst, ◌∙◌}
-use mathlib.Core.Bool.{Bool, true, false, cond, ◌||◌}
-use mathlib.Core.Logic.{◌⊎◌, inl, inr, ⊎_elim}
-use Prim.Native.Nat.{ℕ, zero, suc, ◌+◌, ◌-◌, ◌*◌, ◌%◌, ◌≤◌, ◌<◌}
-use native.Mathlib.Nat.{le_refl, le_of_eq, le_of_lt, le_antisymm, eq-or-lt_of_le, eq-zero-or-pos, add-zero, add-suc, zero-mul, mul_assoc, mul_comm, mul-pos, mul-le-mul_right, mul-lt-mul_of_pos_right}
-use native.Mathlib.Numerals.{add-one}
-use native.Mathlib.Omega.{arith}
-use borrow.Author.Tests.{eqb-true, eq-eqb, ltb-true, ltb-false}
-use lib.Dec.{lit≤, eqb}
+use Rattle.std.proofs.Common.{◌≡◌, refl, sym, ap, subst, ◌∙◌, Bool, true, false, cond, ◌||◌, ◌⊎◌, inl, inr, ⊎_elim, ℕ, zero, suc, ◌+◌, ◌-◌, ◌*◌, ◌%◌, ◌≤◌, ◌<◌, le_refl, le_of_eq, le_of_lt, le_antisymm, eq-or-lt_of_le, eq-zero-or-pos, add-zero, add-suc, zero-mul, mul_assoc, mul_comm, mul-pos, mul-le-mul_right, mul-lt-mul_of_pos_right, add-one, arith, eqb-true, eq-eqb, ltb-true, ltb-false, lit≤, eqb}
 use Rattle.measure.specs.Parts.{EvenParts}
 use Rattle.measure.specs.Multipliers.{multiplier, Counts, first_once, last_once, even_four_times, other_odd_twice}
 use Rattle.measure.specs.Zones.{zone_start, zone_end, Point, meets, before, end_at, end_met, between, ends_before, zone_of}

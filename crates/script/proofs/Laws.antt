@@ -2,5 +2,6 @@
 pub mod Laid
 pub mod Parts
 pub mod Numbers
+pub mod Measures
 pub mod Hex
 pub mod Calls

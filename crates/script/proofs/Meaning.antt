@@ -1,26 +1,20 @@
 -- What the definitions of specs/ mean: the parts of a text joined again, a number by its places, hex written and read back, which form a
 -- line has, and what a line that fits leaves to its call.
-use Prim.Native.Nat.{ℕ, zero, suc, ◌+◌, ◌*◌, ◌-◌, ◌/◌, ◌%◌, ◌^◌, ◌≤◌, ◌<◌, min}
+use Rattle.std.proofs.Common.{ℕ, zero, suc, ◌+◌, ◌*◌, ◌-◌, ◌/◌, ◌%◌, ◌^◌, ◌≤◌, ◌<◌, min, ◌≡◌, refl, sym, ap, ◌∙◌, Bool, true, false, cond, ◌||◌, List, [], ◌∷◌, ◌++◌, map, add-mul, mul_assoc, zero-add, one-add, arith, lt-ltb, le-ltb, le-leb, eq-eqb, eqb-true, ltb-true, ltb-false, ltb, eqb, length, get_or}
 use Prim.Native.Char.{code}
-use mathlib.Core.Path.{◌≡◌, refl, sym, ap, ◌∙◌}
-use mathlib.Core.Bool.{Bool, true, false, cond, ◌||◌, and-eq-true_iff, false≢true}
-use mathlib.Core.List.{List, [], ◌∷◌, ◌++◌, map}
-use native.Mathlib.Nat.{add-mul, mul_assoc, zero-add, pow-succ'}
-use native.Mathlib.Numerals.{one-add}
-use native.Mathlib.Omega.{arith}
-use borrow.Author.Tests.{lt-ltb, le-ltb, le-leb, lt-leb, eq-eqb, eqb-true, ltb-true, ltb-false}
-use lib.Dec.{ltb, eqb}
-use lib.ListN.{length, get_or, length-map}
+use mathlib.Core.Bool.{and-eq-true_iff, false≢true}
+use native.Mathlib.Nat.{pow-succ'}
+use borrow.Author.Tests.{lt-leb}
+use lib.ListN.{length-map}
 use Rattle.script.specs.Text.{ascii}
-use Rattle.script.specs.Words.{on_first, parts_of, marks_in, first, behind, same_text, is_decimal, is_letter, is_digit, all_digits, value_behind}
+use Rattle.script.specs.Words.{on_first, parts_of, marks_in, same_text, is_decimal, is_letter, is_digit, all_digits, value_behind, held}
 use Rattle.script.specs.Words.{word_at, number_of, value_in, measure_of, is_empty_list, numbers_of, measures_of}
 use Rattle.script.specs.Hex.{is_hex, digit_value, hex_digit, bytes_of, hex_of}
-use Rattle.script.specs.Calls.{survey_forms, figures_forms, is_form, place_by, place_of, or_else, number_judged, judged_numbers, judged_list, judged_hex, judged_word}
-use Rattle.script.specs.declared.words.Number.{Number}
-use Rattle.script.specs.declared.words.Number.TheVariants.{Value, NotANumber as no_number, TooLarge}
-use Rattle.script.specs.declared.remarks.Remark.TheVariants.{NumberTooLarge, ListTooLong, FileTooLong, NotHex}
-use Rattle.script.specs.declared.calls.Judged.TheVariants.{Fits, NoCall}
-use Rattle.script.proofs.Laws.Parts.{part_at, parts_counted}
+use Rattle.script.specs.Calls.{survey_forms, figures_forms, is_form, place_by, place_of, is_passed, line_by, line_of, Judged, judged, or_else, number_judged, judged_numbers, judged_list, judged_hex, judged_word}
+use Rattle.script.specs.declared.remarks.Remark.{Remark}
+use Rattle.script.specs.declared.remarks.Remark.TheVariants.{UnknownCall, NotANumber, NumberTooLarge, ListTooLong, FileTooLong, NotHex}
+use Rattle.std.specs.Prelude.{Option, Some, None, Result, Ok, Err}
+use Rattle.script.proofs.Laws.Parts.{parts_counted}
 use Rattle.script.proofs.Laws.Hex.{decimal_range, letter_range}
 
 -- ---- parts of a text
@@ -56,17 +50,26 @@ parts_joined mark (x ∷ xs) = by (eqb x mark) refl (parts_joined mark xs)
     by true e others = joined_begun mark (parts_of mark xs) some ∙ ap (λ (l : List ℕ). mark ∷ l) others ∙ ap (λ (y : ℕ). y ∷ xs) (sym (eqb-true x mark e))
     by false e others = joined_longer mark x (parts_of mark xs) some ∙ ap (λ (l : List ℕ). x ∷ l) others
 
-first_unmarked : (mark : ℕ) (xs : List ℕ) → marks_in mark (first mark xs) ≡ 0
-first_unmarked mark [] = refl
-first_unmarked mark (x ∷ xs) = by (eqb x mark) refl (first_unmarked mark xs)
-  where
-    by : (b : Bool) → eqb x mark ≡ b → marks_in mark (first mark xs) ≡ 0 → marks_in mark (cond b [] (x ∷ first mark xs)) ≡ 0
-    by true e none = refl
-    by false e none = rw e (zero-add _ ∙ none)
+marks_begun : (mark : ℕ) (parts : List (List ℕ)) → ((j : ℕ) → marks_in mark (get_or parts j []) ≡ 0)
+    → (j : ℕ) → marks_in mark (get_or ([] ∷ parts) j []) ≡ 0
+marks_begun mark parts none zero = refl
+marks_begun mark parts none (suc j) = none j
+
+marks_longer : (mark x : ℕ) (parts : List (List ℕ)) → eqb x mark ≡ false → ((j : ℕ) → marks_in mark (get_or parts j []) ≡ 0)
+    → (j : ℕ) → marks_in mark (get_or (on_first x parts) j []) ≡ 0
+marks_longer mark x [] e none j = none j
+marks_longer mark x (part ∷ parts) e none zero = rw e (zero-add _ ∙ none 0)
+marks_longer mark x (part ∷ parts) e none (suc j) = none (suc j)
 
 -- and none has a mark in it: so there is one way to cut a text
 pub part_unmarked : (mark k : ℕ) (text : List ℕ) → marks_in mark (get_or (parts_of mark text) k []) ≡ 0
-part_unmarked mark k text = ap (marks_in mark) (sym (part_at mark k text)) ∙ first_unmarked mark (behind mark k text)
+part_unmarked mark k [] = marks_begun mark [] (λ j. refl) k
+part_unmarked mark k (x ∷ xs) = by (eqb x mark) refl (λ j. part_unmarked mark j xs)
+  where
+    by : (b : Bool) → eqb x mark ≡ b → ((j : ℕ) → marks_in mark (get_or (parts_of mark xs) j []) ≡ 0)
+        → marks_in mark (get_or (cond b ([] ∷ parts_of mark xs) (on_first x (parts_of mark xs))) k []) ≡ 0
+    by true e none = marks_begun mark (parts_of mark xs) none k
+    by false e none = marks_longer mark x (parts_of mark xs) e none k
 
 -- ---- two texts
 
@@ -99,6 +102,11 @@ value_ahead v (x ∷ xs) =
 -- each digit counts ten to the power of how many stand behind it
 pub value_by_place : (x : ℕ) (xs : List ℕ) → value_behind 0 (x ∷ xs) ≡ (x - code "0") * 10 ^ length xs + value_behind 0 xs
 value_by_place x xs = value_ahead (0 * 10 + (x - code "0")) xs ∙ ap (λ (d : ℕ). d * 10 ^ length xs + value_behind 0 xs) (zero-add (x - code "0"))
+
+-- a word of digits is their value, where it is held
+pub all_digits_lem : (xs : List ℕ) → (length xs ≡ 0 → ⊥) → all_digits false xs ≡ true → number_of xs ≡ held (value_behind 0 xs)
+all_digits_lem [] n e = absurd (n refl)
+all_digits_lem (x ∷ xs) n e = ap (λ (b : Bool). cond b (held (value_behind 0 (x ∷ xs))) (Err NotANumber)) e
 
 -- ---- hex
 
@@ -225,29 +233,44 @@ module _ (line : List ℕ) (forms : List (List ℕ)) where
       (λ g f. rw f (name_too line (get_or forms (place_by true line forms) []) (form_found true line forms g)))
       (λ g f. rw f (form_found false line forms (omega arith)))
 
+-- a call's place is that of a form
+pub call_told : (forms : List (List ℕ)) (line : List ℕ) (place : ℕ) → line_by forms line ≡ Ok (Some place) → place < length forms
+unfolding line_by
+call_told forms line place e = by (is_passed line) (ltb (place_of line forms) (length forms)) refl (judged (get_or forms (place_of line forms) []) line) e
+  where
+    by : (p b : Bool) → ltb (place_of line forms) (length forms) ≡ b → (j : Judged)
+        → ◌≡◌ {A = Result (Option ℕ) Remark} (cond p (Ok None) (cond b (line_of (place_of line forms) j) (Err UnknownCall))) (Ok (Some place))
+        → place < length forms
+    by true b h j f = cc
+    by false true h (Ok fits) f =
+        let told : place_of line forms ≡ place = cc in
+        omega (arith, told, ltb-true _ _ h)
+    by false true h (Err remark) f = cc
+    by false false h j f = cc
+
 -- a vessel number that fits is the number that its word is, and none is handed on as the greatest of its type
-pub vessel_fits : (word : List ℕ) → judged_word (ascii "vessel") word ≡ Fits → number_of word ≡ Value (measure_of word)
+pub vessel_fits : (word : List ℕ) → judged_word (ascii "vessel") word ≡ Ok tt → number_of word ≡ Ok (measure_of word)
 unfolding judged_word
 vessel_fits word e = by (number_of word) e
   where
-    by : (n : Number) → or_else (number_judged n) (cond (ltb 4294967295 (value_in n)) (NoCall NumberTooLarge) Fits) ≡ Fits
-        → n ≡ Value (min (value_in n) 4294967295)
-    by (Value x) f = up_to (ltb 4294967295 x) refl f
+    by : (n : Result ℕ Remark) → or_else (number_judged n) (cond (ltb 4294967295 (value_in n)) (Err NumberTooLarge) (Ok tt)) ≡ Ok tt
+        → n ≡ Ok (min (value_in n) 4294967295)
+    by (Ok x) f = up_to (ltb 4294967295 x) refl f
       where
-        up_to : (b : Bool) → ltb 4294967295 x ≡ b → cond b (NoCall NumberTooLarge) Fits ≡ Fits → Value x ≡ Value (min x 4294967295)
-        up_to true t f = let z : ◌≡◌ {A = ℕ} 0 1 = cc in absurd (omega arith)
+        up_to : (b : Bool) → ltb 4294967295 x ≡ b → ◌≡◌ {A = Judged} (cond b (Err NumberTooLarge) (Ok tt)) (Ok tt)
+            → ◌≡◌ {A = Result ℕ Remark} (Ok x) (Ok (min x 4294967295))
+        up_to true t f = cc
         up_to false t f =
             let l : x ≤ 4294967295 = ltb-false 4294967295 x t in
-            ap Value (omega arith)
-    by no_number f = let z : ◌≡◌ {A = ℕ} 0 1 = cc in absurd (omega arith)
-    by TooLarge f = let z : ◌≡◌ {A = ℕ} 0 1 = cc in absurd (omega arith)
+            ap Ok (omega arith)
+    by (Err remark) f = cc
 
 -- a list that fits has no more numbers than 1,024, so that all of them are laid into so many places
-pub list_fits : (list : List ℕ) → judged_list list ≡ Fits → length (measures_of list) ≤ 1024
+pub list_fits : (list : List ℕ) → judged_list list ≡ Ok tt → length (measures_of list) ≤ 1024
 unfolding judged_list measures_of
 list_fits list e = by (ltb 1024 (length (numbers_of list))) refl e
   where
-    by : (b : Bool) → ltb 1024 (length (numbers_of list)) ≡ b → cond b (NoCall ListTooLong) (judged_numbers (numbers_of list)) ≡ Fits
+    by : (b : Bool) → ltb 1024 (length (numbers_of list)) ≡ b → cond b (Err ListTooLong) (judged_numbers (numbers_of list)) ≡ Ok tt
         → length (map measure_of (numbers_of list)) ≤ 1024
     by true t f = let z : ◌≡◌ {A = ℕ} 0 1 = cc in absurd (omega arith)
     by false t f = omega (arith, length-map (numbers_of list) measure_of, ltb-false 1024 (length (numbers_of list)) t)
@@ -258,12 +281,13 @@ bytes_half (x ∷ []) = omega arith
 bytes_half (x ∷ y ∷ rest) = omega (arith, bytes_half rest)
 
 -- and a file that fits has no more than 65,536 bytes
-pub file_fits : (word : List ℕ) → judged_hex word ≡ Fits → length (bytes_of word) ≤ 65536
+pub file_fits : (word : List ℕ) → judged_hex word ≡ Ok tt → length (bytes_of word) ≤ 65536
 unfolding judged_hex
 file_fits word e = by (is_empty_list word) refl (ltb 131072 (length word)) refl e
   where
     by : (a : Bool) → is_empty_list word ≡ a → (b : Bool) → ltb 131072 (length word) ≡ b
-        → cond a Fits (cond b (NoCall FileTooLong) (cond (is_hex word) Fits (NoCall NotHex))) ≡ Fits → length (bytes_of word) ≤ 65536
+        → ◌≡◌ {A = Judged} (cond a (Ok tt) (cond b (Err FileTooLong) (cond (is_hex word) (Ok tt) (Err NotHex)))) (Ok tt)
+        → length (bytes_of word) ≤ 65536
     by true s b t f = omega (arith, bytes_half word, ap length (same_text_lem word (code "-" ∷ []) s))
     by false s true t f = let z : ◌≡◌ {A = ℕ} 0 1 = cc in absurd (omega arith)
     by false s false t f = omega (arith, bytes_half word, ltb-false 131072 (length word) t)

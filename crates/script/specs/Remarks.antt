@@ -15,16 +15,3 @@ remark_text NotAByte = ascii "? not a byte"
 remark_text FileTooLong = ascii "? file too long"
 remark_text NotHex = ascii "? not hex"
 remark_text ScriptTooLong = ascii "? script too long"
-
--- their order in the code's own table
-abbrev pub remark_place : Remark → ℕ
-remark_place UnknownCall = 0
-remark_place WrongNumberOfWords = 1
-remark_place NotANumber = 2
-remark_place NumberTooLarge = 3
-remark_place ListTooLong = 4
-remark_place BufferTooLarge = 5
-remark_place NotAByte = 6
-remark_place FileTooLong = 7
-remark_place NotHex = 8
-remark_place ScriptTooLong = 9

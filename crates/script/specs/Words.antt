@@ -1,8 +1,8 @@
 -- Words of a line, and the numbers and lists in them ("Lines" and "Arguments" of the protocol).
-use Rattle.std.specs.Prelude.{ℕ, zero, suc, ◌+◌, ◌*◌, ◌-◌, min, Bool, true, false, cond, ◌&&◌, ◌||◌, List, [], ◌∷◌, map, leb, eqb, length, drop, get_or}
+use Rattle.std.specs.Prelude.{ℕ, ◌+◌, ◌*◌, ◌-◌, min, Bool, true, false, cond, ◌&&◌, ◌||◌, List, [], ◌∷◌, map, leb, eqb, get_or, Result, Ok, Err}
 use Prim.Native.Char.{code}
-use Rattle.script.specs.declared.words.Number.{Number}
-use Rattle.script.specs.declared.words.Number.TheVariants.{Value, NotANumber, TooLarge}
+use Rattle.script.specs.declared.remarks.Remark.{Remark}
+use Rattle.script.specs.declared.remarks.Remark.TheVariants.{NotANumber, NumberTooLarge}
 
 -- ---- parts of a text: a script is cut at its line ends, a line at its spaces, a list at its commas
 
@@ -21,26 +21,10 @@ abbrev pub marks_in : ℕ → List ℕ → ℕ
 marks_in mark [] = 0
 marks_in mark (x ∷ xs) = cond (eqb x mark) 1 0 + marks_in mark xs
 
--- ---- where a part begins and ends
-
 -- the first part, up to the first mark
 abbrev pub first : ℕ → List ℕ → List ℕ
 first mark [] = []
 first mark (x ∷ xs) = cond (eqb x mark) [] (x ∷ first mark xs)
-
--- what is behind the first mark; nothing where there is none
-abbrev pub rest : ℕ → List ℕ → List ℕ
-rest mark [] = []
-rest mark (x ∷ xs) = cond (eqb x mark) xs (rest mark xs)
-
--- what is behind k marks
-abbrev pub behind : ℕ → ℕ → List ℕ → List ℕ
-behind mark zero xs = xs
-behind mark (suc k) xs = behind mark k (rest mark xs)
-
--- where the part that begins at a place ends: at the first mark from there on, else at the text's end; past that end, at the place itself
-unfoldable pub part_end : ℕ → ℕ → List ℕ → ℕ
-part_end mark at text = at + length (first mark (drop at text))
 
 -- ---- words
 
@@ -79,19 +63,18 @@ value_behind v [] = v
 value_behind v (x ∷ xs) = value_behind (v * 10 + (x - code "0")) xs
 
 -- a value up to 2^64-1
-unfoldable pub held : ℕ → Number
-held v = cond (leb v 18446744073709551615) (Value v) TooLarge
+unfoldable pub held : ℕ → Result ℕ Remark
+held v = cond (leb v 18446744073709551615) (Ok v) (Err NumberTooLarge)
 
 -- what a word is as a number: judged as digits first, whatever their value
-abbrev pub number_of : List ℕ → Number
-number_of [] = NotANumber
-number_of (x ∷ xs) = cond (all_digits false (x ∷ xs)) (held (value_behind 0 (x ∷ xs))) NotANumber
+abbrev pub number_of : List ℕ → Result ℕ Remark
+number_of [] = Err NotANumber
+number_of (x ∷ xs) = cond (all_digits false (x ∷ xs)) (held (value_behind 0 (x ∷ xs))) (Err NotANumber)
 
 -- its value; 0 where it is none
-abbrev pub value_in : Number → ℕ
-value_in (Value x) = x
-value_in NotANumber = 0
-value_in TooLarge = 0
+abbrev pub value_in : Result ℕ Remark → ℕ
+value_in (Ok x) = x
+value_in (Err remark) = 0
 
 -- "A value above what the library's own type holds .. is handed on as the type's greatest value"
 abbrev pub id_of : List ℕ → ℕ

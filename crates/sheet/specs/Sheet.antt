@@ -1,5 +1,5 @@
 -- A sheet: "It holds 200 places for spaces, kept in order of entry", and its open changes.
-use Rattle.std.specs.Prelude.{ℕ, ◌-◌, ◌≡◌, refl, Bool, false, cond, ◌&&◌, List, eqb, leb, ltb, length, take, get_or, replicate}
+use Rattle.std.specs.Prelude.{ℕ, ◌-◌, ◌≡◌, refl, Bool, false, cond, ◌&&◌, List, [], eqb, leb, ltb, length, take, get_or, replicate}
 use Rattle.measure.specs.Volumes.{hundredths}
 use Rattle.measure.specs.declared.units.Hundredths.{Hundredths}
 use Rattle.spaces.specs.Space.{empty_space}
@@ -60,7 +60,8 @@ blank opened length vessel =
 abbrev pub not_open : Sheet
 not_open = blank false (hundredths 0) 0
 
--- what a sheet hands out: its tonnage length, its vessel number, how many spaces stand, the one at a place, and all the places
+-- what a sheet hands out: its tonnage length, its vessel number, how many spaces stand, the one at a place, all the places, and those
+-- that stand
 unfoldable pub length_of : Sheet → Hundredths
 length_of s = cond (usable s) s.length (hundredths 0)
 
@@ -75,3 +76,6 @@ space_at s place = cond (ltb place (standing_count s)) (get_or s.spaces place em
 
 unfoldable pub places_of : Sheet → List Space
 places_of s = cond (usable s) s.spaces (replicate 200 empty_space)
+
+unfoldable pub standing_of : Sheet → List Space
+standing_of s = cond (usable s) (standing s) []

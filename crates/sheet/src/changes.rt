@@ -1,12 +1,14 @@
 // Changes to the standing spaces: made, taken back, and noted as the latest.
-ghost use Rattle.std.specs.Prelude.{◌≡◌};
+ghost use Rattle.std.specs.Prelude.{◌≡◌, ◌≢◌, MatchResult};
 ghost use Rattle.sheet.specs.Sheet.{standing as standing_of, kept, change_of};
-ghost use Rattle.sheet.specs.Handed.{Places, OpenPlaces};
-ghost use Rattle.sheet.specs.Changes.{made as made_of, taken_back, noted as noted_of, fitted, without_last, removed, inserted, restood};
+ghost use Rattle.sheet.specs.Handed.{Open, answer_of};
+ghost use Rattle.sheet.specs.Changes.{made, taken_back, noted, fitted, without_last, removed, inserted, restood};
+ghost use Rattle.sheet.specs.Calls.{answered, changed};
 
-use crate::row::{with_latest, with_place, without_place};
+use crate::refusals::accepted;
 use crate::sheet::Sheet;
-use spaces::row::{PLACES, lesser};
+use measure::refusals::Refusal;
+use spaces::row::PLACES;
 use spaces::space::{Space, empty};
 
 #[derive(Clone, Copy)]
@@ -30,155 +32,148 @@ pub struct OpenChange {
     pub space: Space,
 }
 
+// Places for open changes on a sheet.
+pub(crate) const OPEN_PLACES: usize = 64;
+
 const ENTRY: u8 = 0;
 
 const WITHDRAWAL: u8 = 1;
 
 const MARK: u8 = 2;
 
-impl OpenChange {
-    pub(crate) fn keeping(change: Change) -> OpenChange
-        ensures { result ≡ kept change }
-    {
-        let none = empty();
+impl From<Change> for OpenChange {
+    ghost from_gives = { λ change noted. noted ≡ kept change };
+
+    fn from(change: Change) -> OpenChange {
+        let none = OpenChange {
+            made: ENTRY,
+            before: 0,
+            after: 0,
+            place: 0,
+            space: empty(),
+        };
         match change {
-            Change::Entered(space) => OpenChange {
-                made: ENTRY,
-                before: 0,
-                after: 0,
-                place: 0,
-                space,
-            },
+            Change::Entered(space) => OpenChange { space, ..none },
             Change::Withdrawn(place, space) => OpenChange {
                 made: WITHDRAWAL,
-                before: 0,
-                after: 0,
                 place,
                 space,
+                ..none
             },
             Change::Marked(place, before, after) => OpenChange {
                 made: MARK,
                 before,
                 after,
                 place,
-                space: none,
+                ..none
             },
         }
     }
+}
 
-    pub(crate) fn change(self) -> Change
-        ensures { result ≡ change_of self }
-    {
-        let space = self.space;
-        if self.made == ENTRY {
-            return Change::Entered(space);
+impl From<OpenChange> for Change {
+    ghost from_gives = { λ noted change. change ≡ change_of noted };
+
+    #[tactic(auto, unfolding(crate::specs::Sheet::change_of))]
+    fn from(noted: OpenChange) -> Change {
+        match noted.made {
+            ENTRY => Change::Entered(noted.space),
+            WITHDRAWAL => Change::Withdrawn(noted.place, noted.space),
+            _ => Change::Marked(noted.place, noted.before, noted.after),
         }
-        if self.made == WITHDRAWAL {
-            return Change::Withdrawn(self.place, space);
-        }
-        Change::Marked(self.place, self.before, self.after)
     }
 }
 
+// `Open` is asked of a sheet here and isn't its type's: C hands in any sheet by value, so that `Sheet` can't hold it.
 impl Sheet {
-    // The spaces after a change.
-    pub(crate) fn made(self, change: Change) -> Sheet
-        requires { Places self }
-        ensures { result ≡ made_of change self }
+    // Makes a change, and notes it as the latest, unless a number refuses it.
+    pub(crate) fn change(&mut self, number: u8, change: Change) -> Result<(), Refusal>
+        requires { Open self.old }
+        ensures answer { answer_of result self.new ≡ answered number self.old (changed change self.old) }
+        ensures ruled { MatchResult result (λ _. number ≡ 0) (λ _. number ≢ 0) }
+    {
+        accepted(number)?;
+        self.make(change);
+        self.note(change);
+        Ok(())
+    }
+
+    // Makes a change to the standing spaces.
+    pub(crate) fn make(&mut self, change: Change)
+        requires { Open self.old }
+        ensures { self.new ≡ made change self.old }
     {
         match change {
-            Change::Entered(x) => self.with(self.count, x),
-            Change::Withdrawn(p, _) => self.without(p),
-            Change::Marked(p, _, after) => self.restanding(p, after),
+            Change::Entered(x) => self.insert(self.count, x),
+            Change::Withdrawn(p, _) => self.remove(p),
+            Change::Marked(p, _, after) => self.restand(p, after),
         }
     }
 
-    // The spaces before a change.
-    pub(crate) fn taken_back(self, change: Change) -> Sheet
-        requires { Places self }
-        ensures { result ≡ taken_back change self }
+    // Takes a change to the standing spaces back.
+    pub(crate) fn take_back(&mut self, change: Change)
+        requires { Open self.old }
+        ensures { self.new ≡ taken_back change self.old }
     {
         match change {
-            Change::Entered(_) => self.without_last(),
-            Change::Withdrawn(p, x) => self.with(p, x),
-            Change::Marked(p, before, _) => self.restanding(p, before),
+            Change::Entered(_) => self.remove_last(),
+            Change::Withdrawn(p, x) => self.insert(p, x),
+            Change::Marked(p, before, _) => self.restand(p, before),
         }
     }
 
-    fn without_last(self) -> Sheet
-        requires { Places self }
-        ensures { result ≡ fitted (without_last (standing_of self)) self }
+    fn remove_last(&mut self)
+        requires { Open self.old }
+        ensures { self.new ≡ fitted (without_last (standing_of self.old)) self.old }
+    {
+        self.count = self.count.saturating_sub(1);
+    }
+
+    fn remove(&mut self, p: usize)
+        requires { Open self.old }
+        ensures { self.new ≡ fitted (removed p (standing_of self.old)) self.old }
+    {
+        if p < self.count {
+            self.spaces.copy_within(p + 1..self.count, p);
+            self.count -= 1;
+        }
+    }
+
+    fn insert(&mut self, p: usize, x: Space)
+        requires { Open self.old }
+        ensures { self.new ≡ fitted (inserted p x (standing_of self.old)) self.old }
     {
         let count = self.count;
-        let mut next = self;
-        if 0 < count {
-            next.count = count - 1;
+        if count < PLACES {
+            let at = p.min(count);
+            self.spaces.copy_within(at..count, at + 1);
+            self.spaces[at] = x;
+            self.count = count + 1;
         }
-        next
     }
 
-    fn without(self, p: usize) -> Sheet
-        requires { Places self }
-        ensures { result ≡ fitted (removed p (standing_of self)) self }
+    fn restand(&mut self, p: usize, standing: u8)
+        requires { Open self.old }
+        ensures { self.new ≡ fitted (restood p standing (standing_of self.old)) self.old }
     {
-        let count = self.count;
-        if count <= p {
-            return self;
+        if p < self.count {
+            self.spaces[p].standing = standing;
         }
-        let spaces = self.spaces;
-        let row = without_place(spaces, count, p);
-        let mut next = self;
-        next.spaces = row;
-        next.count = count - 1;
-        next
     }
 
-    #[tactic(auto, using(crate::proofs::Laws::Changes::put_in, crate::proofs::Laws::Changes::place_in_too_many))]
-    fn with(self, p: usize, x: Space) -> Sheet
-        requires { Places self }
-        ensures { result ≡ fitted (inserted p x (standing_of self)) self }
+    // Notes a change as the latest: 64 at the most, the oldest pushed out, and nothing left to redo.
+    fn note(&mut self, change: Change)
+        requires { Open self.old }
+        ensures { self.new ≡ noted change self.old }
     {
-        let count = self.count;
-        if PLACES <= count {
-            return self;
+        let latest = OpenChange::from(change);
+        self.redoable = 0;
+        if self.undoable < OPEN_PLACES {
+            self.changes[self.undoable] = latest;
+            self.undoable += 1;
+        } else {
+            self.changes.copy_within(1.., 0);
+            self.changes[OPEN_PLACES - 1] = latest;
         }
-        let spaces = self.spaces;
-        let row = with_place(spaces, count, lesser(p, count), x);
-        let mut next = self;
-        next.spaces = row;
-        next.count = count + 1;
-        next
-    }
-
-    fn restanding(self, p: usize, standing: u8) -> Sheet
-        requires { Places self }
-        ensures { result ≡ fitted (restood p standing (standing_of self)) self }
-    {
-        if self.count <= p {
-            return self;
-        }
-        let mut row = self.spaces;
-        let mut x = row[p];
-        x.standing = standing;
-        row[p] = x;
-        let mut next = self;
-        next.spaces = row;
-        next
-    }
-
-    // A change noted as the latest: 64 at the most, the oldest pushed out, and nothing left to redo.
-    pub(crate) fn noted(self, change: Change) -> Sheet
-        requires { OpenPlaces self }
-        ensures { result ≡ noted_of change self }
-    {
-        let n = self.undoable;
-        let latest = OpenChange::keeping(change);
-        let changes = self.changes;
-        let row = with_latest(changes, n, latest);
-        let mut next = self;
-        next.changes = row;
-        next.undoable = lesser(n + 1, 64);
-        next.redoable = 0;
-        next
     }
 }

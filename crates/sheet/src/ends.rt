@@ -10,39 +10,28 @@ use measure::ends::end_areas;
 use measure::kinds::UNDER_DECK;
 use measure::units::Hundredths;
 
-// 1 inner (at a step), 2 upright, 3 pointed.
+// 1 inner (at a step), 2 upright, 3 pointed: codes and no enum, since C hands in any byte, and `ends_fit` tells those that are none.
 const INNER: u8 = 1;
 
 const POINTED: u8 = 3;
 
 impl Entry {
     // Its ends are inner, upright or pointed; of another kind than a U they aren't looked at.
+    #[tactic(auto, unfolding(crate::specs::Ends::ends_fit))]
     pub(crate) fn ends_fit(self) -> bool
         ensures { result ≡ ends_fit self }
     {
-        if self.kind != UNDER_DECK {
-            return true;
-        }
-        if !is_end(self.fore_end) {
-            return false;
-        }
-        is_end(self.aft_end)
+        self.kind != UNDER_DECK || (is_end(self.fore_end) && is_end(self.aft_end))
     }
 
     // A U with an end that is said to be pointed.
     fn has_pointed_end(self) -> bool
         ensures { result ≡ (has_ends self && (is_pointed self.fore_end || is_pointed self.aft_end)) }
     {
-        if self.kind != UNDER_DECK {
-            return false;
-        }
-        if self.fore_end == POINTED {
-            return true;
-        }
-        self.aft_end == POINTED
+        self.kind == UNDER_DECK && (self.fore_end == POINTED || self.aft_end == POINTED)
     }
 
-    // 19: a pointed end has area. `whole` is the tonnage length.
+    // 19: a pointed end has area. `whole` is the tonnage length. The areas are worked out only where an end is said to be pointed.
     fn pointed_with_area(self, whole: Hundredths, depths: &[u32], breadths: &[u32]) -> bool
         ensures { result ≡ pointed_with_area self (end_areas whole self.length depths.now breadths.now) }
     {
@@ -50,13 +39,11 @@ impl Entry {
             return false;
         }
         let areas = end_areas(whole, self.length, depths, breadths);
-        if pointed_area(self.fore_end, areas.fore) {
-            return true;
-        }
-        pointed_area(self.aft_end, areas.aft)
+        pointed_area(self.fore_end, areas.fore) || pointed_area(self.aft_end, areas.aft)
     }
 
-    // The number that the other tests gave, and 19 after them all.
+    // The number that the other tests gave, and 19 after them all. 29 comes so after those of a tank (`standard`), but one function of
+    // both would be handed the test and the number, and be an `if` with other names.
     pub(crate) fn judged_by_ends(
         self,
         number: u8,
@@ -66,29 +53,22 @@ impl Entry {
     ) -> u8
         ensures { result ≡ first_of ((not (eqb number 0), number) ∷ (pointed_with_area self (end_areas whole self.length depths.now breadths.now), 19) ∷ []) }
     {
-        if number == 0 {
-            if self.pointed_with_area(whole, depths, breadths) {
-                return POINTED_WITH_AREA;
-            }
+        if number == 0 && self.pointed_with_area(whole, depths, breadths) {
+            POINTED_WITH_AREA
+        } else {
+            number
         }
-        number
     }
 }
 
 fn is_end(end: u8) -> bool
     ensures { result ≡ is_end end }
 {
-    if end < INNER {
-        return false;
-    }
-    end <= POINTED
+    INNER <= end && end <= POINTED
 }
 
 fn pointed_area(end: u8, area: u32) -> bool
     ensures { result ≡ pointed_area end area }
 {
-    if end != POINTED {
-        return false;
-    }
-    area != 0
+    end == POINTED && area != 0
 }

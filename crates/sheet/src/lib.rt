@@ -10,7 +10,6 @@ mod changes;
 mod ends;
 pub mod refusals;
 mod resume;
-mod row;
 mod sheet;
 mod tanks;
 

@@ -1,13 +1,17 @@
 // The sheet ("The sheet and its changes"): its places and its open changes, and what stands.
-ghost use Rattle.std.specs.Prelude.{◌≡◌};
-ghost use Rattle.sheet.specs.Sheet.{blank as blank_of, not_open, usable as usable_of, standing_count, space_at, places_of, length_of, vessel_of};
-ghost use Rattle.sheet.specs.Handed.{Judged};
+ghost use Rattle.std.specs.Prelude.{◌≡◌, false, length, MatchResult};
+ghost use Rattle.sheet.specs.Sheet.{blank as blank_of, not_open, usable as usable_of, standing_count, space_at, places_of, standing_of, length_of, vessel_of};
+ghost use Rattle.sheet.specs.Handed.{Open, refusal};
 
-use crate::changes::{Change, OpenChange};
-use crate::row::{open_places_of, places_of};
+use crate::changes::{Change, OPEN_PLACES, OpenChange};
+use crate::refusals::NOT_OPEN;
+use measure::refusals::Refusal;
 use measure::units::Hundredths;
+use spaces::row::{PLACES, Row};
 use spaces::space::{Space, empty};
 
+// C takes it by this layout, and no crate here has a heap: so arrays with their counts, and a number for a `bool`, since C hands in
+// any byte.
 #[repr(C)]
 #[derive(Clone, Copy)]
 pub struct Sheet {
@@ -31,13 +35,12 @@ impl Sheet {
     pub(crate) fn blank(opened: bool, length: Hundredths, vessel: u32) -> Sheet
         ensures { result ≡ blank_of opened length vessel }
     {
-        let open_mark = opened as u8;
         let none = empty();
-        let free = OpenChange::keeping(Change::Entered(none));
+        let free = OpenChange::from(Change::Entered(none));
         let spaces = [none; 200];
         let changes = [free; 64];
         Sheet {
-            opened: open_mark,
+            opened: u8::from(opened),
             length,
             spaces,
             count: 0,
@@ -50,23 +53,24 @@ impl Sheet {
 
     // Open, with counts that a call could have handed back.
     #[tactic(auto, unfolding(crate::specs::Sheet::usable))]
-    pub(crate) fn usable(self) -> bool
-        ensures { Judged self result }
+    pub(crate) fn usable(&self) -> bool
+        ensures { result ≡ usable_of self.now }
     {
-        let spaces = self.spaces;
-        let places = places_of(spaces);
-        let changes = self.changes;
-        let most = open_places_of(changes);
-        if self.opened != 1 {
-            return false;
+        self.opened == 1
+            && self.count <= PLACES
+            && self.undoable <= OPEN_PLACES
+            && self.redoable <= OPEN_PLACES - self.undoable
+    }
+
+    // 1: the sheet isn't open.
+    pub(crate) fn check_open(&self) -> Result<(), Refusal>
+        ensures { MatchResult result (λ _. Open self.now) (λ r. (r ≡ refusal 1) × (usable_of self.now ≡ false)) }
+    {
+        if self.usable() {
+            Ok(())
+        } else {
+            Err(Refusal(NOT_OPEN))
         }
-        if places < self.count {
-            return false;
-        }
-        if most < self.undoable {
-            return false;
-        }
-        self.redoable <= most - self.undoable
     }
 
     // A sheet not open.
@@ -77,60 +81,71 @@ impl Sheet {
     }
 
     // The tonnage length; 0 where the sheet isn't open.
-    pub fn tonnage_length(self) -> Hundredths
-        ensures { result ≡ length_of self }
+    #[tactic(auto, unfolding(crate::specs::Sheet::length_of))]
+    pub fn tonnage_length(&self) -> Hundredths
+        ensures { result ≡ length_of self.now }
     {
         if self.usable() {
-            return self.length;
+            self.length
+        } else {
+            Hundredths(0)
         }
-        Hundredths(0)
     }
 
-    // The vessel number; 0 where the sheet isn't open.
-    pub fn vessel(self) -> u32
-        ensures { result ≡ vessel_of self }
+    // The vessel number; 0 where the sheet isn't open. The same `if` as the next one's, of another field: one of both would be no plainer.
+    #[tactic(auto, unfolding(crate::specs::Sheet::vessel_of))]
+    pub fn vessel(&self) -> u32
+        ensures { result ≡ vessel_of self.now }
     {
-        if self.usable() {
-            return self.vessel;
-        }
-        0
+        if self.usable() { self.vessel } else { 0 }
     }
 
     // How many spaces stand; none where the sheet isn't open.
-    pub fn standing_count(self) -> usize
-        ensures { result ≡ standing_count self }
+    #[tactic(auto, unfolding(crate::specs::Sheet::standing_count))]
+    pub fn standing_count(&self) -> usize
+        ensures { result ≡ standing_count self.now }
     {
-        if self.usable() {
-            return self.count;
-        }
-        0
+        if self.usable() { self.count } else { 0 }
     }
 
     // The space at a place of the order, from 0; an empty record where none stands.
+    #[tactic(auto, unfolding(crate::specs::Sheet::space_at, crate::specs::Sheet::standing_count))]
     pub fn space_at(self, place: usize) -> Space
         ensures { result ≡ space_at self place }
     {
-        if place < self.standing_count() {
-            let spaces = self.spaces;
-            return spaces[place];
+        // The places alone: an index into `self` has the whole sheet copied.
+        let spaces = self.spaces;
+        if self.usable() && place < self.count {
+            spaces[place]
+        } else {
+            empty()
         }
-        empty()
     }
 
     // The 200 places, of which the first `standing_count` stand; empty records where the sheet isn't open.
+    #[tactic(auto, unfolding(crate::specs::Sheet::places_of))]
     pub fn places(self) -> [Space; 200]
         ensures { result ≡ places_of self }
     {
         if self.usable() {
-            return self.spaces;
+            self.spaces
+        } else {
+            [empty(); 200]
         }
-        let none = empty();
-        [none; 200]
+    }
+
+    // The spaces that stand, in order of entry; none where the sheet isn't open.
+    #[tactic(auto, unfolding(crate::specs::Sheet::standing_of, crate::specs::Sheet::standing_count))]
+    pub fn standing(&self) -> Row<'_>
+        ensures spaces { result.spaces.now ≡ standing_of self.now }
+        ensures counted { length result.spaces.now ≡ standing_count self.now }
+    {
+        Row::of(&self.spaces, if self.usable() { self.count } else { 0 })
     }
 
     // Whether the sheet is open.
-    pub fn is_open(self) -> bool
-        ensures { result ≡ usable_of self }
+    pub fn is_open(&self) -> bool
+        ensures { result ≡ usable_of self.now }
     {
         self.usable()
     }

@@ -1,17 +1,19 @@
 // The entry of a tank (T-01 of document 02): a room that follows the hull, measured in the U that it names.
-ghost use Rattle.std.specs.Prelude.{◌≡◌, cond, ◌||◌, eqb, take};
+ghost use Rattle.std.specs.Prelude.{◌≡◌, cond, ◌||◌, eqb};
 ghost use Rattle.sheet.specs.Calls.{out_of_range};
 ghost use Rattle.sheet.specs.Tanks.{tank_of, tank_measured, tank_entering};
+ghost use Rattle.sheet.specs.Handed.{tank_answer};
 
 use crate::calls::out_of_range;
 use crate::changes::Change;
-use crate::refusals::NOT_OPEN;
+use crate::refusals::number_of;
 use crate::sheet::Sheet;
 use measure::kinds::ROOM;
 use measure::offsets::Measured;
-use measure::refusals::{NOT_THE_NUMBER_ASKED, OUTSIDE_ITS_RANGE};
+use measure::refusals::{NOT_THE_NUMBER_ASKED, OUTSIDE_ITS_RANGE, Refusal};
 use measure::tanks::measure_tank;
 use measure::units::Hundredths;
+use spaces::row::Row;
 use spaces::space::Space;
 use standard::tanks::{tank_ruling, under_deck_with};
 
@@ -37,21 +39,20 @@ pub struct TankEntering {
 }
 
 impl Tank {
-    // Measures the tank in the U that it names, among the first `count` spaces; `whole` is the tonnage length.
-    fn measured(
-        self,
-        whole: Hundredths,
-        spaces: [Space; 200],
-        count: usize,
-        depths: &[u32],
-        breadths: &[u32],
-    ) -> Measured
-        ensures { result ≡ tank_measured whole (take count spaces) self depths.now breadths.now }
+    // Measures the tank in the U that it names, among the spaces that stand; `whole` is the tonnage length.
+    fn measured(self, whole: Hundredths, row: Row, depths: &[u32], breadths: &[u32]) -> Measured
+        ensures { result ≡ tank_measured whole row.entry.spaces.now self depths.now breadths.now }
     {
-        let u = under_deck_with(spaces, count, self.within);
-        let length = self.length;
-        let fore = self.fore;
-        measure_tank(whole, u.length, u.m, length, fore, depths, breadths)
+        let u = under_deck_with(row, self.within);
+        measure_tank(
+            whole,
+            u.length,
+            u.m,
+            self.length,
+            self.fore,
+            depths,
+            breadths,
+        )
     }
 
     // The first of its numbers: 2 by what it says; `measured`, where its measures are wrong; and `ruled`, by the spaces that stand.
@@ -59,19 +60,19 @@ impl Tank {
         ensures { result ≡ cond (out_of_range self.standing self.deck) 2 (cond (eqb measured 2 || eqb measured 3) measured ruled) }
     {
         if out_of_range(self.standing, self.deck) {
-            return OUTSIDE_ITS_RANGE;
+            OUTSIDE_ITS_RANGE
+        } else if ill_measured(measured) {
+            measured
+        } else {
+            ruled
         }
-        if ill_measured(measured) {
-            return measured;
-        }
-        ruled
     }
 
     // The record of a tank, with its tonnage.
+    #[tactic(auto, unfolding(crate::specs::Tanks::tank_of))]
     fn space(self, tonnage: u32) -> Space
         ensures { result ≡ tank_of self tonnage }
     {
-        let length = self.length;
         Space {
             id: self.id,
             within: self.within,
@@ -80,7 +81,7 @@ impl Tank {
             m: 0,
             deck: self.deck,
             tonnage,
-            length,
+            length: self.length,
         }
     }
 }
@@ -90,33 +91,35 @@ impl Sheet {
     pub fn enter_tank(self, tank: Tank, depths: &[u32], breadths: &[u32]) -> TankEntering
         ensures { result ≡ tank_entering self tank depths.now breadths.now }
     {
-        if !self.usable() {
-            return TankEntering {
-                number: NOT_OPEN,
-                visited: 0,
-                sheet: self,
-            };
-        }
-        let spaces = self.spaces;
-        let whole = self.length;
-        let measured = tank.measured(whole, spaces, self.count, depths, breadths);
-        let x = tank.space(measured.tonnage);
-        let ruling = tank_ruling(spaces, self.count, whole, x, tank.fore);
-        let visited = ruling.visited;
-        let number = tank.judged(measured.number, ruling.number);
-        if number != 0 {
-            return TankEntering {
-                number,
-                visited,
-                sheet: self,
-            };
-        }
-        let change = Change::Entered(x);
-        TankEntering {
+        let mut entering = TankEntering {
             number: 0,
-            visited,
-            sheet: self.made(change).noted(change),
+            visited: 0,
+            sheet: self,
+        };
+        let (outcome, visited) = entering.sheet.take_tank_in(tank, depths, breadths);
+        entering.number = number_of(outcome);
+        entering.visited = visited;
+        entering
+    }
+
+    // What came of it, and how many enclosing spaces were visited.
+    fn take_tank_in(
+        &mut self,
+        tank: Tank,
+        depths: &[u32],
+        breadths: &[u32],
+    ) -> (Result<(), Refusal>, u8)
+        ensures { tank_answer result.0 result.1 self.new ≡ tank_entering self.old tank depths.now breadths.now }
+    {
+        if let Err(refusal) = self.check_open() {
+            return (Err(refusal), 0);
         }
+        let whole = self.length;
+        let measured = tank.measured(whole, self.standing(), depths, breadths);
+        let x = tank.space(measured.tonnage);
+        let ruling = tank_ruling(self.standing(), whole, x, tank.fore);
+        let number = tank.judged(measured.number, ruling.number);
+        (self.change(number, Change::Entered(x)), ruling.visited)
     }
 }
 
@@ -124,8 +127,5 @@ impl Sheet {
 fn ill_measured(number: u8) -> bool
     ensures { result ≡ (eqb number 2 || eqb number 3) }
 {
-    if number == OUTSIDE_ITS_RANGE {
-        return true;
-    }
-    number == NOT_THE_NUMBER_ASKED
+    number == OUTSIDE_ITS_RANGE || number == NOT_THE_NUMBER_ASKED
 }

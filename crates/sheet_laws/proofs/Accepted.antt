@@ -1,12 +1,7 @@
 -- The paper's rules: an accepted entry, withdrawal and mark fit the spaces that they were accepted on. Stands on Changes, Resumable,
 -- Runs.
-use Prim.Native.Nat.{ℕ}
-use mathlib.Core.Path.{◌≡◌, refl, ◌∙◌}
-use mathlib.Core.Bool.{Bool, true, false, not}
-use mathlib.Core.List.{List, [], ◌∷◌, ◌++◌}
-use native.Mathlib.Omega.{arith}
+use Rattle.std.proofs.Common.{ℕ, ◌≡◌, refl, ◌∙◌, Bool, true, false, not, List, [], ◌∷◌, ◌++◌, arith, eqb, ltb}
 use borrow.Author.Tests.{not-false}
-use lib.Dec.{eqb, ltb}
 use Rattle.measure.specs.declared.units.Hundredths.{Hundredths}
 use Rattle.measure.specs.Refusals.{first_of}
 use Rattle.measure.specs.Ends.{ends_of}

@@ -1,11 +1,7 @@
 -- After any run of calls from a sheet just opened or just read: the spaces standing are those that the accepted changes not undone
 -- leave if made in order, the counts are the paper's, each space is accepted in order as a record, and no volume is taken off twice.
 -- Stands on Accepted.
-use Prim.Native.Nat.{ℕ}
-use mathlib.Core.Path.{◌≡◌, refl}
-use mathlib.Core.Bool.{true}
-use mathlib.Core.List.{List}
-use native.Mathlib.Omega.{arith}
+use Rattle.std.proofs.Common.{ℕ, ◌≡◌, refl, true, List, arith}
 use Rattle.measure.specs.declared.units.Hundredths.{Hundredths}
 use Rattle.spaces.specs.declared.space.Space.{Space}
 use Rattle.spaces_laws.proofs.Twice.{neither_above_the_other, taken_off_at_most_whole}

@@ -1,11 +1,6 @@
 -- Sheets without machinery rooms have the figures they had (T-06 of document 02): a report of one is what it was, its number too. Stands
 -- on nothing else here.
-use Prim.Native.Nat.{ℕ}
-use mathlib.Core.Path.{◌≡◌, refl, ap}
-use mathlib.Core.Bool.{Bool}
-use mathlib.Core.List.{[], ◌∷◌, ◌++◌}
-use native.Mathlib.Omega.{arith}
-use lib.Dec.{ltb}
+use Rattle.std.proofs.Common.{ℕ, ◌≡◌, refl, ap, Bool, [], ◌∷◌, ◌++◌, arith, ltb}
 use Rattle.measure.specs.declared.units.Hundredths.{Hundredths}
 use Rattle.measure.specs.Refusals.{first_of}
 use Rattle.standard.specs.Valid.{Valid}

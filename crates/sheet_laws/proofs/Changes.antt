@@ -1,11 +1,6 @@
 -- The three changes kept by place do what the paper says by id, and taken back leave the spaces as they were. Stands on Undoable.
-use Prim.Native.Nat.{ℕ, suc, ◌-◌}
-use mathlib.Core.Path.{◌≡◌, refl, sym, ap, ◌∙◌}
-use mathlib.Core.List.{List, [], ◌∷◌, ◌++◌}
-use mathlib.Core.Option.{some}
-use native.Mathlib.Omega.{arith}
-use lib.ListN.{length, take, drop, get_or, set, length-append}
-use lib.Seq.{length-take-le, take_at, drop_at, split_at, set-set, set-get_or, get_or-set_same}
+use Rattle.std.proofs.Common.{ℕ, suc, ◌-◌, ◌≡◌, refl, sym, ap, ◌∙◌, List, [], ◌∷◌, ◌++◌, Some, arith, length, take, drop, get_or, set, length-append, length-take-le, take_at, drop_at, set-set, get_or-set_same}
+use lib.Seq.{split_at, set-get_or}
 use Rattle.measure.specs.declared.units.Hundredths.{Hundredths}
 use Rattle.spaces.specs.declared.space.Space.{Space}
 use Rattle.spaces.specs.Space.{empty_space, restanding}
@@ -29,7 +24,7 @@ entry_leads x by-id xs last =
     }
 
 -- on a valid sheet the place of an id that stands is its only one
-module _ {L : Hundredths} {xs : List Space} (v : Valid L xs) (id : ℕ) {z : Space} (stands : find id xs ≡ some z) where
+module _ {L : Hundredths} {xs : List Space} (v : Valid L xs) (id : ℕ) {z : Space} (stands : find id xs ≡ Some z) where
   -- "Undoing a withdrawal puts the space back at its former place in the order."
   pub withdrawal_leads : Leads (Withdrawn (place_of id xs) (space_with (find id xs))) (id_withdrawn id) xs (without id xs)
   withdrawal_leads =

@@ -1,8 +1,5 @@
 -- Document 01's box entered on a sheet just opened, with its ends said so (T-02): the number that is answered, and the tonnage.
-use Prim.Native.Nat.{ℕ}
-use mathlib.Core.Path.{◌≡◌, refl}
-use mathlib.Core.List.{List, [], ◌∷◌, ◌++◌}
-use lib.ListN.{replicate}
+use Rattle.std.proofs.Common.{ℕ, ◌≡◌, refl, List, [], ◌∷◌, ◌++◌, replicate}
 use Rattle.measure.specs.Kinds.{kind_of}
 use Rattle.measure.specs.Rounding.{nearest}
 use Rattle.measure.specs.Parts.{table_parts, step_parts, under_deck_parts, depth_parts}

@@ -1,13 +1,8 @@
 -- The ends of a U (T-02): what is said of them and what is refused by them, as statements; nothing of them is recorded; and an entry with
 -- an end said otherwise. Stands on Accepted.
-use Prim.Native.Nat.{ℕ, ◌<◌, ◌≤◌}
-use mathlib.Core.Path.{◌≡◌, refl, sym, ap, ◌∙◌}
-use mathlib.Core.Bool.{true, ◌&&◌, false≢true}
-use mathlib.Core.List.{List}
-use mathlib.Core.Logic.{◌↔◌}
-use native.Mathlib.Omega.{arith}
-use borrow.Author.Tests.{not-true, eq-eqb, ne_eqb, eqb-true, eqb-false, leb-true}
-use lib.Dec.{eqb, leb}
+use Rattle.std.proofs.Common.{ℕ, ◌<◌, ◌≤◌, ◌≡◌, refl, sym, ap, ◌∙◌, true, ◌&&◌, List, ◌↔◌, arith, eq-eqb, ne_eqb, eqb-true, leb-true, eqb, leb}
+use mathlib.Core.Bool.{false≢true}
+use borrow.Author.Tests.{not-true, eqb-false}
 use Rattle.measure.specs.declared.units.Hundredths.{Hundredths}
 use Rattle.measure.specs.declared.ends.EndAreas.{EndAreas}
 use Rattle.measure.specs.Ends.{ends_of}

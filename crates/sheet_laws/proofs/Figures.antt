@@ -1,10 +1,6 @@
 -- The starred figures of document 01, all of them, as one table about the definitions: those of one space (measure_laws) and those
 -- of gross and the water ballast, on sheets of a few recorded spaces.
-use Prim.Native.Nat.{ℕ}
-use mathlib.Core.Path.{◌≡◌, refl}
-use mathlib.Core.Bool.{true}
-use mathlib.Core.List.{List, [], ◌∷◌}
-use native.Mathlib.Omega.{arith}
+use Rattle.std.proofs.Common.{ℕ, ◌≡◌, refl, true, List, [], ◌∷◌, arith}
 use Rattle.measure.specs.Rounding.{nearest}
 use Rattle.measure.specs.Volumes.{hundredths}
 use Rattle.measure.specs.Allowances.{hatchway_allowance, hatchway_excess, ballast_over}

@@ -1,4 +1,6 @@
 -- The starred figures, any run of calls, reports without machinery rooms, and the ends of a U. Read from top to bottom.
+pub mod Answered
+pub mod PutIn
 pub mod Figures
 pub mod Undoable
 pub mod History

@@ -1,14 +1,8 @@
 -- Spaces that `resume` accepts: a valid sheet, and no record that no entry could have made. An accepted entry, withdrawal and mark
 -- leave such spaces.
-use Prim.Native.Nat.{ℕ}
-use mathlib.Core.Path.{◌≡◌, refl, sym, ap, ◌∙◌}
-use mathlib.Core.Bool.{true, false, not, ◌&&◌}
+use Rattle.std.proofs.Common.{ℕ, ◌≡◌, refl, sym, ap, ◌∙◌, true, false, not, ◌&&◌, List, [], ◌∷◌, ◌++◌, ◌↔◌, ⊎_elim, arith, eqb-true, eq-eqb, le-ltb, eqb, ltb}
 use mathlib.Core.List.Memᴰ
-use mathlib.Core.List.{List, [], ◌∷◌, ◌++◌}
-use mathlib.Core.Logic.{◌↔◌, ⊎_elim}
-use native.Mathlib.Omega.{arith}
-use borrow.Author.Tests.{eqb-true, eqb-false, eq-eqb, le-ltb}
-use lib.Dec.{eqb, ltb}
+use borrow.Author.Tests.{eqb-false}
 use Rattle.measure.specs.Kinds.{kind_of, is_kind}
 use Rattle.measure.specs.Ranges.{includes, includes_all, tonnage_lengths, lengths, fores, heights, breadths}
 use Rattle.measure.specs.Offsets.{in_range, measured}

@@ -1,13 +1,8 @@
 -- The history holds after any run of calls, and the vessel number stays, under any rules whose accepted changes fit the spaces that they
 -- were accepted on: each call, accepted or refused, keeps it. Stands on History.
-use Prim.Native.Nat.{ℕ, ◌-◌, ◌≤◌, ◌<◌}
-use mathlib.Core.Path.{◌≡◌, refl, sym, ap, ◌∙◌, subst}
-use mathlib.Core.Bool.{Bool, true, cond, not}
-use mathlib.Core.List.{List, [], ◌∷◌}
-use native.Mathlib.Omega.{arith}
-use borrow.Author.Tests.{eqb-true, eqb-false, eq-eqb, ne_eqb}
-use lib.Dec.{eqb, leb}
-use lib.ListN.{length, length-replicate}
+use Rattle.std.proofs.Common.{ℕ, ◌-◌, ◌≤◌, ◌<◌, ◌≡◌, refl, sym, ap, ◌∙◌, subst, Bool, true, cond, not, List, [], ◌∷◌, arith, eqb-true, eq-eqb, ne_eqb, eqb, leb, length}
+use borrow.Author.Tests.{eqb-false}
+use lib.ListN.{length-replicate}
 use Rattle.measure.specs.declared.units.Hundredths.{Hundredths}
 use Rattle.measure.specs.Refusals.{first_of}
 use Rattle.spaces.specs.declared.space.Space.{Space}

@@ -1,11 +1,8 @@
 -- The open changes as two chains: those undoable lead, one after another, to the spaces that stand, and those redoable lead on from
 -- there. A new change goes behind the undoable ones, and the oldest past 64 is no longer open.
-use Prim.Native.Nat.{ℕ, zero, suc, ◌+◌, ◌-◌, ◌≤◌, ◌<◌}
-use mathlib.Core.Path.{◌≡◌, sym, ap, ◌∙◌}
-use mathlib.Core.List.{List, [], ◌∷◌, ◌++◌}
-use native.Mathlib.Omega.{arith}
-use lib.ListN.{length, take, drop, get_or, length-append, length-drop, get_or-append}
-use lib.Seq.{length-take-le, get_or-take, get_or-drop, get_or_at}
+use Rattle.std.proofs.Common.{ℕ, zero, suc, ◌+◌, ◌-◌, ◌≤◌, ◌<◌, ◌≡◌, sym, ap, ◌∙◌, List, [], ◌∷◌, ◌++◌, arith, length, take, drop, get_or, length-append, length-drop, length-take-le, get_or-take, get_or-drop}
+use lib.ListN.{get_or-append}
+use lib.Seq.{get_or_at}
 use Rattle.spaces.specs.declared.space.Space.{Space}
 use Rattle.sheet.specs.Sheet.{change_of, no_change}
 use Rattle.sheet.specs.Changes.{apply, apply_back, latest}

@@ -23,9 +23,7 @@ fn list_input<R: Read, W: Write>(input: &mut R, output: &mut W) -> io::Result<()
     let mut file = file_buffer();
     let n = read_full(input, &mut file)?;
     let listing = list(&file[..n]);
-    let text = listing.text;
-    let size = listing.size;
-    output.write_all(&text[..size])
+    output.write_all(&listing.text[..listing.size])
 }
 
 // Room for a day's file and a byte more, by which one too long is told. The `ensures` gives only the length, which lending

@@ -1,6 +1,5 @@
 -- Enclosure ("Enclosure"): the chain upward, levels, and what stands above and below.
-use Rattle.std.specs.Prelude.{ℕ, zero, suc, ◌+◌, Bool, true, false, cond, ◌&&◌, ◌||◌, List, [], ◌∷◌, eqb, length}
-use Rattle.std.proofs.Math.Option.{Option, none, some}
+use Rattle.std.specs.Prelude.{ℕ, zero, suc, ◌+◌, Bool, true, false, cond, ◌&&◌, ◌||◌, List, [], ◌∷◌, eqb, length, Option, None, Some}
 use Rattle.spaces.specs.Space.{is_room, is_plain}
 use Rattle.spaces.specs.Row.{find}
 use Rattle.spaces.specs.declared.space.Space.{Space}
@@ -8,12 +7,12 @@ use Rattle.spaces.specs.declared.enclosure.Above.{Above}
 
 -- "Only a room has an enclosing space": the standing space with its enclosing id
 abbrev pub enclosing : List Space → Space → Option Space
-enclosing xs x = cond (is_room x) (find x.within xs) none
+enclosing xs x = cond (is_room x) (find x.within xs) None
 
 -- a space, where there is one, and those further on from it
 abbrev pub onward : Option Space → (Space → List Space) → List Space
-onward none further = []
-onward (some z) further = z ∷ further z
+onward None further = []
+onward (Some z) further = z ∷ further z
 
 -- "The chain upward is walked one enclosing space at a time": the spaces above x, its enclosing space first, with `left` levels left
 abbrev pub upward : ℕ → List Space → Space → List Space

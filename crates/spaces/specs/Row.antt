@@ -1,41 +1,24 @@
 -- The standing spaces in order of entry: finding one by its id, and sums over them.
-use Rattle.std.specs.Prelude.{ℕ, suc, ◌+◌, ◌*◌, ◌^◌, ◌≤◌, min, Bool, true, false, cond, ◌&&◌, List, [], ◌∷◌, eqb}
-use Rattle.std.proofs.Math.Option.{Option, none, some}
+use Rattle.std.specs.Prelude.{ℕ, suc, ◌+◌, ◌*◌, ◌^◌, ◌≤◌, Bool, cond, ◌&&◌, List, [], ◌∷◌, eqb, Option, None, Some, is_some, unwrap_or}
 use Rattle.spaces.specs.Space.{empty_space, is_under_deck, is_hatchway, is_room, is_hull}
 use Rattle.spaces.specs.declared.space.Space.{Space}
-use Rattle.spaces.specs.declared.row.Found.{Found}
-use Rattle.spaces.specs.declared.row.Found.TheVariants.{At, Nothing}
 use Rattle.spaces.specs.declared.sums.Amount.{Amount}
 use Rattle.spaces.specs.declared.sums.Amount.TheVariants.{Inside, Rooms, Lengths, Hull, Hatchways, Exempt, Ballast, Deducted, Machinery}
 use Rattle.spaces.specs.declared.sums.Totals.{Totals}
 
--- how many of the 200 places are used, where a sheet says `count`
-abbrev pub used : ℕ → ℕ
-used count = min count 200
-
 -- the standing space with an id
 abbrev pub find : ℕ → List Space → Option Space
-find id [] = none
-find id (x ∷ xs) = cond (eqb x.id id) (some x) (find id xs)
+find id [] = None
+find id (x ∷ xs) = cond (eqb x.id id) (Some x) (find id xs)
 
--- the same as the code hands it on
-abbrev pub found_as : Option Space → Found
-found_as none = Nothing
-found_as (some x) = At x
-
--- and itself, or an empty record
+-- that space, or an empty record where none stands
 abbrev pub space_with : Option Space → Space
-space_with none = empty_space
-space_with (some x) = x
+space_with o = unwrap_or o empty_space
 
--- its place in the order, from 0; as many as there are spaces where none has the id
+-- the place of the space with an id in the order, from 0; as many as there are spaces where none has the id
 abbrev pub place_of : ℕ → List Space → ℕ
 place_of id [] = 0
 place_of id (x ∷ xs) = cond (eqb x.id id) 0 (suc (place_of id xs))
-
-abbrev pub is_some : Option Space → Bool
-is_some none = false
-is_some (some x) = true
 
 abbrev pub stands : ℕ → List Space → Bool
 stands id xs = is_some (find id xs)

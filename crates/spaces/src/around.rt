@@ -1,23 +1,22 @@
 // What is around a space: among those that stand, and among recorded ones before it. An entry's rules ask nothing else of the row.
-ghost use Rattle.std.specs.Prelude.{◌≡◌, cond, ◌≤◌, take};
+ghost use Rattle.std.specs.Prelude.{◌≡◌};
 ghost use Rattle.spaces.specs.Around.{enclosing_place, beside_of, around_of, blank_around, each_around};
-ghost use Rattle.spaces.specs.Handed.{Charted};
 
-use crate::enclosure::{LEVELS, all_above, climb};
-use crate::index::{index_ids, places, rows_of};
-use crate::row::{lesser, place_of, stands, used};
+use crate::enclosure::{LEVELS, walk};
+use crate::index::Index;
+use crate::row::{PLACES, Row};
 use crate::space::Space;
-use crate::sums::{Amount, share, sum};
+use crate::sums::{Amount, share};
 use measure::kinds::ROOM;
 
 #[derive(Clone, Copy)]
 pub struct Around {
     // Its id stands already.
     pub taken: bool,
-    // The place of its enclosing space, from 0; as many as stand where there is none.
+    // The place of its enclosing space, from 0; as many as stand where there is none, as the definition (specs/Around) has it.
     pub home: usize,
     // How many spaces are above it, and whether all are plain.
-    pub levels: usize,
+    pub levels: u8,
     pub plain: bool,
     // The tonnages of the rooms directly inside its enclosing space; where it has none, the lengths of all U.
     pub beside: u64,
@@ -36,97 +35,68 @@ fn blank_around() -> Around
     }
 }
 
-// The place of the enclosing space, from 0; as many as stand where there is none.
-fn enclosing_place(spaces: [Space; 200], count: usize, x: Space) -> usize
-    ensures { result ≡ enclosing_place (take count spaces) x }
-{
-    if x.kind == ROOM {
-        return place_of(spaces, count, x.within);
+impl Row<'_> {
+    // The place of the enclosing space, from 0; as many as stand where there is none.
+    fn enclosing_place(self, x: Space) -> usize
+        ensures { result ≡ enclosing_place self.entry.spaces.now x }
+    {
+        if x.kind == ROOM {
+            self.place_of(x.within)
+        } else {
+            self.spaces.len()
+        }
     }
-    used(count)
-}
 
-fn beside(spaces: [Space; 200], count: usize, x: Space, home: usize) -> u64
-    ensures { result ≡ beside_of home (take count spaces) x }
-{
-    if home < used(count) {
-        return sum(spaces, count, Amount::Inside(x.within));
+    // What a space is added to, whose enclosing space is at a place.
+    fn beside(self, x: Space, home: usize) -> u64
+        ensures { result ≡ beside_of home self.entry.spaces.now x }
+    {
+        if home < self.spaces.len() {
+            self.sum(Amount::Inside(x.within))
+        } else {
+            self.sum(Amount::Lengths)
+        }
     }
-    sum(spaces, count, Amount::Lengths)
-}
 
-// What is around a space among those that stand.
-pub fn around_space(spaces: [Space; 200], count: usize, x: Space) -> Around
-    ensures { result ≡ around_of (take count spaces) x }
-{
-    let home = enclosing_place(spaces, count, x);
-    let up = all_above(spaces, count, x);
-    Around {
-        taken: stands(spaces, count, x.id),
-        home,
-        levels: up.levels,
-        plain: up.plain,
-        beside: beside(spaces, count, x, home),
-    }
-}
-
-// What a record would be added to, by what is known of those before it.
-fn added_to(enclosed: bool, inside: u64, lengths: u64) -> u64
-    ensures { result ≡ cond enclosed inside lengths }
-{
-    if enclosed {
-        return inside;
-    }
-    lengths
-}
-
-// What is around each of the records among those before it; a blank for each free place. It is known by places and running sums, so
-// that no search and no sum is made twice.
-pub fn around_each(records: [Space; 200], count: usize) -> [Around; 200]
-    ensures { result ≡ each_around (take count records) }
-{
-    let n = used(count);
-    let rows = rows_of(records);
-    let ids = rows.ids;
-    let standings = rows.standings;
-    let mut index = [n as u8; 10000];
-    index_ids(&ids, n, &mut index);
-    let homes = places(records, n, false, &index, &ids);
-    let owns = places(records, n, true, &index, &ids);
-    around_places(records, n, &homes, &owns, &standings)
-}
-
-// The same by the places of the enclosing spaces, those at which the ids stand first, and the standings. The rooms inside each place
-// are added up as they come; what has no enclosing space is added up behind the last place, and not looked at.
-fn around_places(
-    records: [Space; 200],
-    n: usize,
-    homes: &[usize; 200],
-    owns: &[usize; 200],
-    standings: &[u8; 200],
-) -> [Around; 200]
-    requires { (n ≤ 200) × Charted records n homes.now owns.now standings.now }
-    ensures { result ≡ each_around (take n records) }
-{
-    let mut inside = [0u64; 201];
-    let mut lengths: u64 = 0;
-    let none = blank_around();
-    let mut all = [none; 200];
-    let mut i = 0;
-    while i < n {
-        let x = records[i];
-        let home = homes[i];
-        let up = climb(homes, standings, i, i, LEVELS);
-        all[i] = Around {
-            taken: owns[i] < i,
-            home: lesser(home, i),
+    // What is around a space among those that stand.
+    pub fn around_space(self, x: Space) -> Around
+        ensures { result ≡ around_of self.entry.spaces.now x }
+    {
+        let home = self.enclosing_place(x);
+        let up = self.all_above(x);
+        Around {
+            taken: self.stands(x.id),
+            home,
             levels: up.levels,
             plain: up.plain,
-            beside: added_to(home < i, inside[home], lengths),
-        };
-        inside[home] += x.tonnage as u64;
-        lengths += share(Amount::Lengths, x);
-        i += 1;
+            beside: self.beside(x, home),
+        }
     }
-    all
+
+    // What is around each of the spaces among those before it; a blank for each free place, as there is no heap. By an index and running
+    // sums, so that no search and no sum is made twice: of the rooms inside each place (of none behind the last one), and of the lengths
+    // of all U.
+    pub fn around_each(self) -> [Around; 200]
+        ensures { result ≡ each_around self.entry.spaces.now }
+    {
+        let index = Index::of(self);
+        let mut inside = [0u64; PLACES + 1];
+        let mut lengths: u64 = 0;
+        let mut all = [blank_around(); 200];
+        for (i, &x) in self.spaces.iter().enumerate() {
+            let home = index.enclosing_place(x);
+            let up = walk(&index.first(i), x, LEVELS);
+            let beside = if home < i { inside[home] } else { lengths };
+            all[i] = Around {
+                taken: index.place_of(x.id) < i,
+                home: home.min(i),
+                levels: up.levels,
+                plain: up.plain,
+                beside,
+            };
+            inside[home] += share(Amount::Inside(x.within), x);
+            lengths += share(Amount::Lengths, x);
+        }
+        all
+    }
 }

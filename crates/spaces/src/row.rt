@@ -1,73 +1,47 @@
-// The standing spaces: how many there are, and finding one by its id.
-ghost use Rattle.std.specs.Prelude.{◌≡◌, min, take};
-ghost use Rattle.spaces.specs.Row.{find as find_in, place_of, stands as stands_in, found_as, used as used_of};
+// The row of standing spaces: made of the places of a sheet, and finding one by its id.
+ghost use Rattle.std.specs.Prelude.{◌≡◌, ◌≤◌, length, take};
+ghost use Rattle.spaces.specs.Row.{find, place_of, stands};
 
 use crate::space::Space;
 
 // Places for spaces on a sheet.
 pub const PLACES: usize = 200;
 
-// The space with an id, if it stands.
+// Spaces in order of entry, at most 200.
 #[derive(Clone, Copy)]
-pub enum Found {
-    At(Space),
-    Nothing,
+pub struct Row<'a> {
+    pub spaces: &'a [Space],
+    ghost few: { length spaces.now ≤ 200 },
 }
 
-// The lesser of two numbers.
-pub fn lesser(a: usize, b: usize) -> usize
-    ensures { result ≡ min a b }
-{
-    if a < b {
-        return a;
-    }
-    b
-}
-
-// How many places are used, of 200.
-pub fn used(count: usize) -> usize
-    ensures { result ≡ used_of count }
-{
-    lesser(count, PLACES)
-}
-
-pub fn find(spaces: [Space; 200], count: usize, id: u16) -> Found
-    ensures { result ≡ found_as (find_in id (take count spaces)) }
-{
-    let n = used(count);
-    let mut i = 0;
-    while i < n {
-        let x = spaces[i];
-        if x.id == id {
-            return Found::At(x);
+impl<'a> Row<'a> {
+    // The spaces in the first `count` of 200 places; a count over 200 is all of them.
+    pub fn of(places: &'a [Space; 200], count: usize) -> Row<'a>
+        ensures { result.spaces.now ≡ take count places.now }
+    {
+        Row {
+            spaces: &places[..count.min(PLACES)],
         }
-        i += 1;
     }
-    Found::Nothing
-}
 
-// The place of the space with an id, from 0; as many as stand where none has it.
-pub fn place_of(spaces: [Space; 200], count: usize, id: u16) -> usize
-    ensures { result ≡ place_of id (take count spaces) }
-{
-    let n = used(count);
-    let mut i = 0;
-    while i < n {
-        let x = spaces[i];
-        if x.id == id {
-            return i;
-        }
-        i += 1;
+    pub fn find(self, id: u16) -> Option<Space>
+        ensures { result ≡ find id self.entry.spaces.now }
+    {
+        self.spaces.iter().find(|x| x.id == id).copied()
     }
-    n
-}
 
-pub fn stands(spaces: [Space; 200], count: usize, id: u16) -> bool
-    ensures { result ≡ stands_in id (take count spaces) }
-{
-    let found = find(spaces, count, id);
-    match found {
-        Found::At(_) => true,
-        Found::Nothing => false,
+    // The place of the space with an id, from 0; as many as stand where none has it, and no `Option`, since the definition
+    // (specs/Row `place_of`) and the theorems on it have it so.
+    pub fn place_of(self, id: u16) -> usize
+        ensures { result ≡ place_of id self.entry.spaces.now }
+    {
+        let found = self.spaces.iter().position(|x| x.id == id);
+        found.unwrap_or(self.spaces.len())
+    }
+
+    pub fn stands(self, id: u16) -> bool
+        ensures { result ≡ stands id self.entry.spaces.now }
+    {
+        self.find(id).is_some()
     }
 }

@@ -4,6 +4,7 @@ ghost use Rattle.spaces.specs.Space.{empty_space};
 
 use measure::units::Hundredths;
 
+// As C and the file hold it, so its kind and its standing are the codes of the paper's tables, and no enums.
 #[repr(C)]
 #[derive(Clone, Copy)]
 pub struct Space {

@@ -1,13 +1,14 @@
 // The sums that the paper takes over the standing spaces: what a space adds to each, one sum, and those of a report at once.
-ghost use Rattle.std.specs.Prelude.{◌≡◌, ◌&&◌, ◌≤◌, ◌<◌, ◌^◌, eqb, take};
+ghost use Rattle.std.specs.Prelude.{◌≡◌, ◌&&◌, ◌≤◌, ◌<◌, ◌^◌, eqb};
 ghost use Rattle.spaces.specs.Space.{is_room, is_hull};
-ghost use Rattle.spaces.specs.Row.{only as only_of, amount_of, sum_of, most_sum, totals_of, EachAtMost};
-ghost use Rattle.spaces.specs.Handed.{AddedTo};
+ghost use Rattle.spaces.specs.Row.{only, amount_of, sum_of, most_sum, totals_of, EachAtMost};
 
-use crate::row::used;
+use crate::row::Row;
 use crate::space::Space;
 use measure::kinds::{BETWEEN_DECK, HATCHWAY, ROOM, SUPERSTRUCTURE, UNDER_DECK};
 
+// Which sum. An enum and no closure of what a space adds, since the definitions (specs/Row `amount_of`, `sum_of`) and the theorems on
+// sums speak of its cases.
 #[derive(Clone, Copy)]
 pub enum Amount {
     // The tonnages of the rooms directly inside the space with an id, and their number.
@@ -36,31 +37,23 @@ pub struct Totals {
     pub machinery: u64,
 }
 
+// n where a test holds, else 0: the definition's own word (specs/Row).
 fn only(test: bool, n: u32) -> u64
-    ensures { (result ≡ only_of test n) × (result < 2 ^ 32) }
+    ensures { (result ≡ only test n) × (result < 2 ^ 32) }
 {
-    if test { n as u64 } else { 0 }
+    if test { u64::from(n) } else { 0 }
 }
 
 fn is_inside(x: Space, id: u16) -> bool
     ensures { result ≡ (is_room x && eqb x.within id) }
 {
-    if x.kind == ROOM {
-        return x.within == id;
-    }
-    false
+    x.kind == ROOM && x.within == id
 }
 
 fn is_hull(x: Space) -> bool
     ensures { result ≡ is_hull x }
 {
-    if x.kind == UNDER_DECK {
-        return true;
-    }
-    if x.kind == BETWEEN_DECK {
-        return true;
-    }
-    x.kind == SUPERSTRUCTURE
+    matches!(x.kind, UNDER_DECK | BETWEEN_DECK | SUPERSTRUCTURE)
 }
 
 // What a space adds to a sum.
@@ -80,55 +73,27 @@ pub(crate) fn share(which: Amount, x: Space) -> u64
     }
 }
 
-pub fn sum(spaces: [Space; 200], count: usize, which: Amount) -> u64
-    ensures { (result ≡ sum_of which (take count spaces)) × (result ≤ most_sum) }
-{
-    let n = used(count);
-    let mut total: u64 = 0;
-    let mut i = 0;
-    while i < n {
-        let x = spaces[i];
-        total += share(which, x);
-        i += 1;
+impl Row<'_> {
+    pub fn sum(self, which: Amount) -> u64
+        ensures total { result ≡ sum_of which self.entry.spaces.now }
+        ensures bounded { result ≤ most_sum }
+    {
+        self.spaces.iter().map(|x| share(which, *x)).sum()
     }
-    total
-}
 
-// The sums of a report, in one loop: each call hands on all the places.
-pub fn total_up(spaces: [Space; 200], count: usize) -> Totals
-    ensures { (result ≡ totals_of (take count spaces)) × EachAtMost most_sum result }
-{
-    let n = used(count);
-    let mut sums = Totals {
-        lengths: 0,
-        hull: 0,
-        hatchways: 0,
-        exempt: 0,
-        ballast: 0,
-        deducted: 0,
-        machinery: 0,
-    };
-    let mut i = 0;
-    while i < n {
-        let x = spaces[i];
-        sums = with_space(sums, x);
-        i += 1;
-    }
-    sums
-}
-
-// The sums with one space more.
-fn with_space(sums: Totals, x: Space) -> Totals
-    requires { EachAtMost most_sum sums }
-    ensures { AddedTo sums x result }
-{
-    Totals {
-        lengths: sums.lengths + share(Amount::Lengths, x),
-        hull: sums.hull + share(Amount::Hull, x),
-        hatchways: sums.hatchways + share(Amount::Hatchways, x),
-        exempt: sums.exempt + share(Amount::Exempt, x),
-        ballast: sums.ballast + share(Amount::Ballast, x),
-        deducted: sums.deducted + share(Amount::Deducted, x),
-        machinery: sums.machinery + share(Amount::Machinery, x),
+    // The sums of a report.
+    pub fn total_up(self) -> Totals
+        ensures totals { result ≡ totals_of self.entry.spaces.now }
+        ensures bounded { EachAtMost most_sum result }
+    {
+        Totals {
+            lengths: self.sum(Amount::Lengths),
+            hull: self.sum(Amount::Hull),
+            hatchways: self.sum(Amount::Hatchways),
+            exempt: self.sum(Amount::Exempt),
+            ballast: self.sum(Amount::Ballast),
+            deducted: self.sum(Amount::Deducted),
+            machinery: self.sum(Amount::Machinery),
+        }
     }
 }

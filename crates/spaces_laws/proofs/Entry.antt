@@ -1,19 +1,13 @@
 -- An entry is accepted (none of 4 to 10 applies) exactly where the facts of `Accepted` hold. Stands on Refusals, Lists, Walk.
-use Prim.Native.Nat.{◌+◌, ◌≤◌}
-use mathlib.Core.Path.{◌≡◌, ap, ◌∙◌}
-use mathlib.Core.Bool.{true, false, not, ◌&&◌, ◌||◌}
-use mathlib.Core.List.{List}
-use mathlib.Core.Option.{some}
-use native.Mathlib.Omega.{arith}
-use borrow.Author.Tests.{ltb-false, leb-false, le-ltb, lt-leb, not-true, not-false}
-use lib.Dec.{ltb}
+use Rattle.std.proofs.Common.{◌+◌, ◌≤◌, ◌≡◌, ap, ◌∙◌, true, false, not, ◌&&◌, ◌||◌, List, Some, is_some, arith, ltb-false, leb-false, le-ltb, ltb}
+use borrow.Author.Tests.{lt-leb, not-true, not-false}
 use Rattle.measure.specs.declared.units.Hundredths.{Hundredths}
 use Rattle.measure.specs.Refusals.{none as no_more}
 use Rattle.measure_laws.proofs.Refusals.{accepted}
 use Rattle.spaces.specs.declared.space.Space.{Space}
 use Rattle.spaces.specs.declared.sums.Amount.TheVariants.{Inside, Lengths}
 use Rattle.spaces.specs.Space.{is_under_deck, is_room}
-use Rattle.spaces.specs.Row.{find, is_some, sum_of}
+use Rattle.spaces.specs.Row.{find, sum_of}
 use Rattle.spaces.specs.Enclosure.{enclosing}
 use Rattle.standard.specs.Rules.{id_refused, unhoused, in_hatchway, misplaced, too_deep, off_twice, passes_enclosing, overfull, no_place, entry_tests, entry_number}
 use Rattle.spaces.proofs.Laws.Cases.{by_test, or_fails}
@@ -31,7 +25,7 @@ module _ (xs : List Space) (x : Space) where
       record { home = s.0; home_stands = s.1; no_hatchway = rw (enclosing_of_room xs x r, s.1) at dry }
 
   module _ (enclosed : is_room x ≡ true → Enclosed xs x) where
-    enclosing_is : (r : is_room x ≡ true) → enclosing xs x ≡ some (enclosed r).home
+    enclosing_is : (r : is_room x ≡ true) → enclosing xs x ≡ Some (enclosed r).home
     enclosing_is r = enclosing_of_room xs x r ∙ (enclosed r).home_stands
 
     rooms_fit_of : passes_enclosing xs x (enclosing xs x) ≡ false → (r : is_room x ≡ true)

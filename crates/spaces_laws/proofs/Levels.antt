@@ -1,14 +1,6 @@
 -- Levels on a valid sheet: the walk tells the level that a space is at, and 7 is given exactly where the enclosing space is at level 8.
 -- Stands on Walk, Valid.
-use Prim.Native.Nat.{ℕ, zero, suc, ◌+◌, ◌≤◌, ◌<◌, min}
-use mathlib.Core.Path.{◌≡◌, sym, ap, ◌∙◌, subst}
-use mathlib.Core.Bool.{true}
-use mathlib.Core.List.{List}
-use mathlib.Core.Option.{some}
-use mathlib.Core.Logic.{◌↔◌}
-use native.Mathlib.Omega.{arith}
-use borrow.Author.Tests.{ltb-true, lt-ltb}
-use lib.ListN.{length}
+use Rattle.std.proofs.Common.{ℕ, zero, suc, ◌+◌, ◌≤◌, ◌<◌, min, ◌≡◌, sym, ap, ◌∙◌, subst, true, List, Some, ◌↔◌, arith, ltb-true, lt-ltb, length}
 use Rattle.measure.specs.declared.units.Hundredths.{Hundredths}
 use Rattle.spaces.specs.declared.space.Space.{Space}
 use Rattle.spaces.specs.Space.{is_room}
@@ -35,7 +27,7 @@ walked_level (suc left) xs all y h l =
     by_test (is_room y)
     (λ r.
     let z = (h r).0 in
-    let e : enclosing xs y ≡ some z = enclosing_of_room xs y r ∙ (h r).1 in
+    let e : enclosing xs y ≡ Some z = enclosing_of_room xs y r ∙ (h r).1 in
     let u : length (upward (suc left) xs y) ≡ length (upward left xs z) + 1 = omega (arith, ap length (upward_next left xs y e)) in
     subst (λ (n : ℕ). LevelIs xs y (n + 1)) (sym u) (inside e (walked_level left xs all z (all z (enclosing_stands xs y e)) (omega arith))))
     (λ r.
@@ -54,7 +46,7 @@ level_exactly {L} {xs} v y m n =
     )
 
 -- 7, "level would pass 8", of any spaces: the enclosing space is at level 8, or past it
-pub too_deep_among_any : (xs : List Space) (x : Space) → (too_deep xs x ≡ true) ↔ ((z : Space) × (enclosing xs x ≡ some z) × (8 ≤ level xs z))
+pub too_deep_among_any : (xs : List Space) (x : Space) → (too_deep xs x ≡ true) ↔ ((z : Space) × (enclosing xs x ≡ Some z) × (8 ≤ level xs z))
 unfolding above
 too_deep_among_any xs x = (
   λ t.

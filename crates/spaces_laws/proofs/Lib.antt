@@ -11,6 +11,7 @@ pub mod Levels
 pub mod Visited
 pub mod Withdraw
 pub mod Mark
+pub mod Enclosed
 pub mod Places
 pub mod Order
 pub mod Standings

@@ -1,18 +1,10 @@
 -- Membership in a list of spaces, finding a space by its id, and sums over the spaces. Stands on Tests.
-use Prim.Native.Nat.{ℕ, zero, suc, ◌+◌, ◌*◌, ◌≤◌, ◌<◌}
-use mathlib.Core.Path.{◌≡◌, refl, sym, ap, ◌∙◌, subst}
-use mathlib.Core.Bool.{Bool, true, false, ◌&&◌}
+use Rattle.std.proofs.Common.{ℕ, zero, suc, ◌+◌, ◌*◌, ◌≤◌, ◌<◌, ◌≡◌, refl, sym, ap, ◌∙◌, subst, Bool, true, false, ◌&&◌, List, [], ◌∷◌, ◌++◌, Option, None, Some, is_some, ◌⊎◌, inl, inr, ⊎_elim, arith, eqb-true, eq-eqb, ne_eqb, eqb, length, get_or}
 use mathlib.Core.List.Memᴰ
-use mathlib.Core.List.{List, [], ◌∷◌, ◌++◌}
-use mathlib.Core.Option.{Option, none, some}
-use mathlib.Core.Logic.{◌⊎◌, inl, inr, ⊎_elim}
-use native.Mathlib.Omega.{arith}
-use borrow.Author.Tests.{eqb-true, eqb-false, eq-eqb, ne_eqb}
-use lib.Dec.{eqb}
-use lib.ListN.{length, get_or}
+use borrow.Author.Tests.{eqb-false}
 use Rattle.spaces.specs.declared.space.Space.{Space}
 use Rattle.spaces.specs.Space.{empty_space, is_room}
-use Rattle.spaces.specs.Row.{find, place_of, is_some, only, sum_by}
+use Rattle.spaces.specs.Row.{find, place_of, only, sum_by}
 use Rattle.spaces.proofs.Laws.Cases.{by_test, not_both, none_not_some}
 use Rattle.spaces.proofs.Laws.Places.{placed}
 pub use Rattle.spaces_laws.specs.Above.{◌∈◌}
@@ -34,30 +26,30 @@ member_at (x ∷ xs) (suc i) d h = Memᴰ.tail (member_at xs i d (omega arith))
 
 -- ---- finding
 
-pub find_here : (id : ℕ) (x : Space) (xs : List Space) → x.id ≡ id → find id (x ∷ xs) ≡ some x
+pub find_here : (id : ℕ) (x : Space) (xs : List Space) → x.id ≡ id → find id (x ∷ xs) ≡ Some x
 find_here id x xs e = rw (eq-eqb x.id id e)
 
 pub find_further : (id : ℕ) (x : Space) (xs : List Space) → (x.id ≡ id → ⊥) → find id (x ∷ xs) ≡ find id xs
 find_further id x xs n = rw (ne_eqb x.id id n)
 
-pub find_before : (id : ℕ) (xs ys : List Space) {z : Space} → find id xs ≡ some z → find id (xs ++ ys) ≡ some z
+pub find_before : (id : ℕ) (xs ys : List Space) {z : Space} → find id xs ≡ Some z → find id (xs ++ ys) ≡ Some z
 find_before id [] ys {z} e = none_not_some refl e
 find_before id (x ∷ xs) ys {z} e =
     by_test (eqb x.id id) (λ t. rw t (rw t at e)) (λ f. rw f (find_before id xs ys {z = z} (rw f at e)))
 
-pub find_behind : (id : ℕ) (xs ys : List Space) → find id xs ≡ none → find id (xs ++ ys) ≡ find id ys
+pub find_behind : (id : ℕ) (xs ys : List Space) → find id xs ≡ None → find id (xs ++ ys) ≡ find id ys
 find_behind id [] ys e = refl
 find_behind id (x ∷ xs) ys e =
     by_test (eqb x.id id) (λ t. none_not_some e (find_here id x xs (eqb-true _ _ t))) (λ f. rw f (find_behind id xs ys (rw f at e)))
 
 -- what is found is one of the spaces, and has the id
-pub found_stands : (id : ℕ) (xs : List Space) {z : Space} → find id xs ≡ some z → (z ∈ xs) × (z.id ≡ id)
+pub found_stands : (id : ℕ) (xs : List Space) {z : Space} → find id xs ≡ Some z → (z ∈ xs) × (z.id ≡ id)
 found_stands id xs {z} e =
     let p = placed id xs {z = z} e in
     (subst (λ (y : Space). y ∈ xs) p.there (member_at xs (place_of id xs) empty_space p.in_order), p.with_id)
 
 -- where an id isn't found, no space has it
-pub unfound_absent : (id : ℕ) {xs : List Space} {z : Space} → find id xs ≡ none → z ∈ xs → z.id ≡ id → ⊥
+pub unfound_absent : (id : ℕ) {xs : List Space} {z : Space} → find id xs ≡ None → z ∈ xs → z.id ≡ id → ⊥
 unfound_absent id {xs = []} {z} e m h = Memᴰ.not-nil m
 unfound_absent id {xs = x ∷ xs} {z} e m h =
     by_test (eqb x.id id)
@@ -68,13 +60,13 @@ unfound_absent id {xs = x ∷ xs} {z} e m h =
     (λ (k : z ∈ xs). unfound_absent id {xs = xs} {z = z} (rw f at e) k h)
     (Memᴰ.cases_cons m))
 
-pub some_of : (o : Option Space) → is_some o ≡ true → (z : Space) × (o ≡ some z)
-some_of none e = not_both e refl
-some_of (some z) e = (z, refl)
+pub some_of : (o : Option Space) → is_some o ≡ true → (z : Space) × (o ≡ Some z)
+some_of None e = not_both e refl
+some_of (Some z) e = (z, refl)
 
-pub none_of : (o : Option Space) → is_some o ≡ false → o ≡ none
-none_of none e = refl
-none_of (some z) e = not_both refl e
+pub none_of : (o : Option Space) → is_some o ≡ false → o ≡ None
+none_of None e = refl
+none_of (Some z) e = not_both refl e
 
 -- ---- sums
 

@@ -1,12 +1,7 @@
 -- The engine room deduction (T-06 of document 02): it is the one that `Deduction` says and no other, just one of its three classes
 -- applies, and what it is at exactly 13% and from 20% on. Stands on Tests.
-use Prim.Native.Nat.{ℕ, ◌*◌, ◌≤◌, ◌<◌, max}
-use mathlib.Core.Path.{◌≡◌, sym, ◌∙◌, subst}
-use mathlib.Core.Bool.{true}
-use mathlib.Core.Logic.{◌↔◌, inl, inr, ⊎_elim}
-use native.Mathlib.Omega.{arith}
-use borrow.Author.Tests.{leb-true, leb-false, ltb-true, ltb-false, le-leb, lt-leb, lt-ltb, le-ltb}
-use lib.Dec.{leb, ltb}
+use Rattle.std.proofs.Common.{ℕ, ◌*◌, ◌≤◌, ◌<◌, max, ◌≡◌, sym, ◌∙◌, subst, true, ◌↔◌, inl, inr, ⊎_elim, arith, leb-true, leb-false, ltb-true, ltb-false, le-leb, lt-ltb, le-ltb, leb, ltb}
+use borrow.Author.Tests.{lt-leb}
 use Rattle.measure.specs.Rounding.{nearest}
 use Rattle.measure_laws.proofs.Rounding.{nearest_is, nearest_only}
 use Rattle.standard.specs.Machinery.{up_to13, from20, thirty_two_percent, seven_quarters, engine_room_deduction}

@@ -1,5 +1,5 @@
 -- Deductions for machinery worked by hand (T-06 of document 02), as one table about the definition, in hundredths of a ton.
-use mathlib.Core.Path.{◌≡◌, refl}
+use Rattle.std.proofs.Common.{◌≡◌, refl}
 use Rattle.measure.specs.Rounding.{nearest}
 use Rattle.standard.specs.Machinery.{engine_room_deduction}
 

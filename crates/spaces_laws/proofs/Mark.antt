@@ -1,15 +1,10 @@
 -- A mark is accepted exactly where the id stands, its kind can take the standing and, unless the standing is plain, all above and below
 -- are plain; then it leaves a valid sheet. Stands on Valid.
-use Prim.Native.Nat.{ℕ}
-use mathlib.Core.Path.{◌≡◌, refl, sym, ap, ◌∙◌, subst}
-use mathlib.Core.Bool.{true, false, not, ◌&&◌}
+use Rattle.std.proofs.Common.{ℕ, ◌≡◌, refl, sym, ap, ◌∙◌, subst, true, false, not, ◌&&◌, List, ◌∷◌, ◌++◌, map, option_map, arith, eqb-true, eq-eqb, ne_eqb, eqb, length}
 use mathlib.Core.List.Memᴰ
-use mathlib.Core.List.{List, ◌∷◌, ◌++◌, map, map-append}
-use mathlib.Core.Option
-use native.Mathlib.Omega.{arith}
-use borrow.Author.Tests.{eqb-true, eqb-false, eq-eqb, ne_eqb, not-true, not-false}
-use lib.Dec.{eqb}
-use lib.ListN.{length, length-map}
+use mathlib.Core.List.{map-append}
+use borrow.Author.Tests.{eqb-false, not-true, not-false}
+use lib.ListN.{length-map}
 use lib.Seq.{append_snoc}
 use Rattle.measure.specs.declared.units.Hundredths.{Hundredths}
 use Rattle.measure.specs.Refusals.{none as no_more}
@@ -119,10 +114,10 @@ module _ (id standing : ℕ) where
         record {
           id_at_least = a.id_at_least;
           id_at_most = a.id_at_most;
-          id_free = find_each new keeps x.id pre ∙ ap (Option.map new) a.id_free;
+          id_free = find_each new keeps x.id pre ∙ ap (option_map new) a.id_free;
           enclosed = λ r.
               let h = a.enclosed r in
-              record { home = new h.home; home_stands = find_each new keeps x.within pre ∙ ap (Option.map new) h.home_stands; no_hatchway = h.no_hatchway };
+              record { home = new h.home; home_stands = find_each new keeps x.within pre ∙ ap (option_map new) h.home_stands; no_hatchway = h.no_hatchway };
           may_take = takes_marked;
           level_at_most = omega (arith, a.level_at_most, ap length (upward_each new keeps 8 pre x), length-map (above pre x) new);
           plain_above = λ p. ap all_plain (upward_each new keeps 8 pre x) ∙ all_plain_map new (above pre x) (plain_above_marked p);

@@ -1,13 +1,7 @@
 -- A valid sheet by places: each space is accepted as an entry after those before it, so a room comes after its enclosing space. Stands
 -- on Entry, Walk.
-use Prim.Native.Nat.{ℕ, zero, suc, ◌<◌}
-use mathlib.Core.Path.{◌≡◌, sym, ap, ◌∙◌}
-use mathlib.Core.Bool.{true}
-use mathlib.Core.List.{List, [], ◌∷◌, ◌++◌, append-nil}
-use mathlib.Core.Option.{some}
-use native.Mathlib.Omega.{arith}
-use lib.ListN.{length, get_or, take, drop, take-append-drop}
-use lib.Seq.{append_snoc, length-take-le, get_or-take}
+use Rattle.std.proofs.Common.{ℕ, zero, suc, ◌<◌, ◌≡◌, sym, ap, ◌∙◌, true, List, [], ◌∷◌, ◌++◌, append-nil, Some, arith, length, get_or, take, drop, take-append-drop, length-take-le, get_or-take}
+use lib.Seq.{append_snoc}
 use Rattle.measure.specs.declared.units.Hundredths.{Hundredths}
 use Rattle.spaces.specs.declared.space.Space.{Space}
 use Rattle.spaces.specs.Space.{empty_space, is_room}
@@ -45,7 +39,7 @@ valid_of_each_entered L xs each = valid_from_each L [] xs each
 pub record EnclosedBefore (xs : List Space) (i : ℕ) : Type 0 where
   pub place : ℕ
   pub earlier : place < i
-  pub encloses : enclosing xs (get_or xs i empty_space) ≡ some (get_or xs place empty_space)
+  pub encloses : enclosing xs (get_or xs i empty_space) ≡ Some (get_or xs place empty_space)
 
 pub room_after_its_enclosing : {L : Hundredths} {xs : List Space} → Valid L xs → (i : ℕ) → i < length xs → is_room (get_or xs i empty_space) ≡ true
     → EnclosedBefore xs i
@@ -62,5 +56,5 @@ room_after_its_enclosing {L} {xs} v i h r =
           enclosing_of_room xs x r
           ∙ ap (find x.within) (sym (take-append-drop i xs))
           ∙ find_before x.within (take i xs) (drop i xs) {z = home.home} home.home_stands
-          ∙ ap some (sym found.there ∙ get_or-take i xs p empty_space early);
+          ∙ ap Some (sym found.there ∙ get_or-take i xs p empty_space early);
     }

@@ -1,14 +1,6 @@
 -- A space's place in the order and its id: on a valid sheet each id stands at one place, a withdrawal takes out that place and a mark sets
 -- it, and the changes by place keep the sheet valid. Stands on Withdraw, Mark.
-use Prim.Native.Nat.{ℕ, zero, suc, ◌<◌}
-use mathlib.Core.Path.{◌≡◌, refl, sym, ap, ◌∙◌, subst}
-use mathlib.Core.Bool.{true}
-use mathlib.Core.List.{List, [], ◌∷◌, ◌++◌}
-use mathlib.Core.Option.{none, some}
-use native.Mathlib.Omega.{arith}
-use borrow.Author.Tests.{eqb-true, eq-eqb, ne_eqb}
-use lib.Dec.{eqb}
-use lib.ListN.{length, get_or, take, drop, set}
+use Rattle.std.proofs.Common.{ℕ, zero, suc, ◌<◌, ◌≡◌, refl, sym, ap, ◌∙◌, subst, true, List, [], ◌∷◌, ◌++◌, None, Some, arith, eqb-true, eq-eqb, ne_eqb, eqb, length, get_or, take, drop, set}
 use Rattle.measure.specs.declared.units.Hundredths.{Hundredths}
 use Rattle.spaces.specs.declared.space.Space.{Space}
 use Rattle.spaces.specs.Space.{empty_space, restanding}
@@ -27,10 +19,10 @@ use Rattle.spaces_laws.proofs.Mark.{mark_by_id_keeps_valid}
 -- no id stands twice
 abbrev pub IdsDiffer : List Space → Type 0
 IdsDiffer [] = Unit {0}
-IdsDiffer (x ∷ xs) = (find x.id xs ≡ none) × IdsDiffer xs
+IdsDiffer (x ∷ xs) = (find x.id xs ≡ None) × IdsDiffer xs
 
 -- an id that stands isn't entered again
-entered_once : {L : Hundredths} (id : ℕ) {pre xs : List Space} {z : Space} → ValidFrom L pre xs → find id pre ≡ some z → find id xs ≡ none
+entered_once : {L : Hundredths} (id : ℕ) {pre xs : List Space} {z : Space} → ValidFrom L pre xs → find id pre ≡ Some z → find id xs ≡ None
 entered_once id done e = refl
 entered_once {L} id {pre} {z = z} (next {x = x} {xs = xs} n v) e =
     find_further id x xs (λ q. none_not_some (facts_of_entry L pre x n).id_free (ap (λ (i : ℕ). find i pre) q ∙ e))
@@ -60,14 +52,14 @@ place_of_id_at {L} {xs} v i h = place_where_different xs (ids_differ v) i h
 
 -- ---- withdrawn and marked, by id and by place
 
-without_absent : (id : ℕ) (xs : List Space) → find id xs ≡ none → without id xs ≡ xs
+without_absent : (id : ℕ) (xs : List Space) → find id xs ≡ None → without id xs ≡ xs
 without_absent id [] e = refl
 without_absent id (x ∷ xs) e =
     by_test (eqb x.id id)
     (λ t. none_not_some e (find_here id x xs (eqb-true _ _ t)))
     (λ f. rw f (ap (λ (l : List Space). x ∷ l) (without_absent id xs (rw f at e))))
 
-marked_absent : (id standing : ℕ) (xs : List Space) → find id xs ≡ none → marked id standing xs ≡ xs
+marked_absent : (id standing : ℕ) (xs : List Space) → find id xs ≡ None → marked id standing xs ≡ xs
 marked_absent id standing [] e = refl
 marked_absent id standing (x ∷ xs) e =
     by_test (eqb x.id id)
@@ -75,7 +67,7 @@ marked_absent id standing (x ∷ xs) e =
     (λ f. rw f (ap (λ (l : List Space). x ∷ l) (marked_absent id standing xs (rw f at e))))
 
 -- an id found nowhere else
-only_here : (id : ℕ) (x : Space) (xs : List Space) → IdsDiffer (x ∷ xs) → eqb x.id id ≡ true → find id xs ≡ none
+only_here : (id : ℕ) (x : Space) (xs : List Space) → IdsDiffer (x ∷ xs) → eqb x.id id ≡ true → find id xs ≡ None
 only_here id x xs d t = ap (λ (i : ℕ). find i xs) (sym (eqb-true _ _ t)) ∙ d.0
 
 without_where_different : (id : ℕ) (xs : List Space) → IdsDiffer xs

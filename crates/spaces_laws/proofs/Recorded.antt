@@ -1,19 +1,14 @@
 -- No rule looks at m (T-01 of document 02): spaces as their records give them back are found, enclosed, summed and judged as they were,
 -- so a valid sheet, written and read, is valid. Stands on Each.
-use Prim.Native.Nat.{ℕ}
-use mathlib.Core.Path.{◌≡◌, refl, sym, ap, ◌∙◌, subst}
-use mathlib.Core.Bool.{Bool, ◌&&◌, ◌||◌}
-use mathlib.Core.List.{List, [], ◌∷◌, ◌++◌}
-use mathlib.Core.Option.{Option, none, some, map}
-use lib.Dec.{eqb}
-use lib.ListN.{length, length-map}
+use Rattle.std.proofs.Common.{ℕ, ◌≡◌, refl, sym, ap, ◌∙◌, subst, Bool, ◌&&◌, ◌||◌, List, [], ◌∷◌, ◌++◌, Option, None, Some, option_map, is_some, eqb, length}
+use lib.ListN.{length-map}
 use Rattle.measure.specs.Refusals.{first_of}
 use Rattle.measure.specs.declared.units.Hundredths.{Hundredths}
 use Rattle.spaces.specs.declared.space.Space.{Space}
 use Rattle.spaces.specs.declared.sums.Amount.{Amount}
 use Rattle.spaces.specs.declared.sums.Amount.TheVariants.{Inside, Rooms, Lengths, Hull, Hatchways, Exempt, Ballast, Deducted, Machinery}
 use Rattle.spaces.specs.Space.{is_plain, recorded, all_recorded}
-use Rattle.spaces.specs.Row.{find, is_some, stands, amount_of, sum_of}
+use Rattle.spaces.specs.Row.{find, stands, amount_of, sum_of}
 use Rattle.spaces.specs.Enclosure.{enclosing, above, all_plain, among, below_of, below}
 use Rattle.standard.specs.Rules.{in_hatchway, passes_enclosing, entry_tests, entry_number, withdraw_number, cannot_take, plain_above, mark_number}
 use Rattle.standard.specs.Records.{misrecorded, record_number, first_refused}
@@ -41,17 +36,17 @@ recorded_twice (x ∷ xs) = ap (λ (l : List Space). recorded x ∷ l) (recorded
 
 -- ---- found, enclosed, summed
 
-pub find_recorded : (id : ℕ) (xs : List Space) → find id (all_recorded xs) ≡ map recorded (find id xs)
+pub find_recorded : (id : ℕ) (xs : List Space) → find id (all_recorded xs) ≡ option_map recorded (find id xs)
 find_recorded id xs = find_each recorded keeps id xs
 
-some_recorded : (o : Option Space) → is_some (map recorded o) ≡ is_some o
-some_recorded none = refl
-some_recorded (some z) = refl
+some_recorded : (o : Option Space) → is_some (option_map recorded o) ≡ is_some o
+some_recorded None = refl
+some_recorded (Some z) = refl
 
 pub stands_recorded : (id : ℕ) (xs : List Space) → stands id (all_recorded xs) ≡ stands id xs
 stands_recorded id xs = ap is_some (find_recorded id xs) ∙ some_recorded (find id xs)
 
-pub enclosing_recorded : (xs : List Space) (x : Space) → enclosing (all_recorded xs) (recorded x) ≡ map recorded (enclosing xs x)
+pub enclosing_recorded : (xs : List Space) (x : Space) → enclosing (all_recorded xs) (recorded x) ≡ option_map recorded (enclosing xs x)
 enclosing_recorded xs x = enclosing_each recorded keeps xs x
 
 pub above_recorded : (xs : List Space) (x : Space) → above (all_recorded xs) (recorded x) ≡ all_recorded (above xs x)
@@ -79,14 +74,14 @@ sum_recorded a xs = sum_each (amount_of a) recorded (blind a) xs
 
 -- ---- judged
 
-hatchway_recorded : (o : Option Space) → in_hatchway (map recorded o) ≡ in_hatchway o
-hatchway_recorded none = refl
-hatchway_recorded (some z) = refl
+hatchway_recorded : (o : Option Space) → in_hatchway (option_map recorded o) ≡ in_hatchway o
+hatchway_recorded None = refl
+hatchway_recorded (Some z) = refl
 
 passes_recorded : (xs : List Space) (x : Space) (o : Option Space)
-    → passes_enclosing (all_recorded xs) (recorded x) (map recorded o) ≡ passes_enclosing xs x o
-passes_recorded xs x none = refl
-passes_recorded xs x (some z) = rw (sum_recorded (Inside x.within) xs)
+    → passes_enclosing (all_recorded xs) (recorded x) (option_map recorded o) ≡ passes_enclosing xs x o
+passes_recorded xs x None = refl
+passes_recorded xs x (Some z) = rw (sum_recorded (Inside x.within) xs)
 
 pub entry_tests_recorded : (L : Hundredths) (xs : List Space) (x : Space) → entry_tests L (all_recorded xs) (recorded x) ≡ entry_tests L xs x
 entry_tests_recorded L xs x =
@@ -124,13 +119,13 @@ pub withdraw_number_recorded : (xs : List Space) (id : ℕ) → withdraw_number 
 unfolding withdraw_number
 withdraw_number_recorded xs id = rw (stands_recorded id xs, sum_recorded (Rooms id) xs)
 
-cannot_take_recorded : (o : Option Space) (standing : ℕ) → cannot_take (map recorded o) standing ≡ cannot_take o standing
-cannot_take_recorded none standing = refl
-cannot_take_recorded (some z) standing = refl
+cannot_take_recorded : (o : Option Space) (standing : ℕ) → cannot_take (option_map recorded o) standing ≡ cannot_take o standing
+cannot_take_recorded None standing = refl
+cannot_take_recorded (Some z) standing = refl
 
-plain_above_recorded : (xs : List Space) (o : Option Space) → plain_above (all_recorded xs) (map recorded o) ≡ plain_above xs o
-plain_above_recorded xs none = refl
-plain_above_recorded xs (some z) = ap all_plain (above_recorded xs z) ∙ all_plain_recorded (above xs z)
+plain_above_recorded : (xs : List Space) (o : Option Space) → plain_above (all_recorded xs) (option_map recorded o) ≡ plain_above xs o
+plain_above_recorded xs None = refl
+plain_above_recorded xs (Some z) = ap all_plain (above_recorded xs z) ∙ all_plain_recorded (above xs z)
 
 pub mark_number_recorded : (xs : List Space) (id standing : ℕ) → mark_number (all_recorded xs) id standing ≡ mark_number xs id standing
 unfolding mark_number

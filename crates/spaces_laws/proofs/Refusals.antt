@@ -1,11 +1,6 @@
 -- What the number given by `first_of` says of each test: 0, that none applies; any other, that none before its own does. Stands on
 -- measure_laws, Refusals.
-use Prim.Native.Nat.{ℕ, ◌<◌}
-use mathlib.Core.Path.{◌≡◌, refl}
-use mathlib.Core.Logic.{⊎_elim}
-use mathlib.Core.Bool.{Bool, true, false}
-use mathlib.Core.List.{List, [], ◌∷◌}
-use native.Mathlib.Omega.{arith}
+use Rattle.std.proofs.Common.{ℕ, ◌<◌, ◌≡◌, refl, ⊎_elim, Bool, true, false, List, [], ◌∷◌, arith}
 use Rattle.measure.specs.Refusals.{first_of, Refuse, here, later, Accept, next}
 use Rattle.measure.proofs.Laws.Refusals.{Numbered}
 use Rattle.measure_laws.proofs.Refusals.{accepted, judged}

@@ -1,13 +1,6 @@
 -- Gross, net and the water ballast on a valid sheet: nothing of the report is cut off at 0 but the excess, net is not more than gross,
 -- and both have a bound; and without machinery rooms they are what they were. Stands on Twice, Standings, Machinery.
-use Prim.Native.Nat.{ℕ, ◌+◌, ◌-◌, ◌*◌, ◌≤◌, ◌<◌}
-use mathlib.Core.Path.{◌≡◌, refl, sym, ap, ◌∙◌, subst}
-use mathlib.Core.Bool.{true, false}
-use mathlib.Core.List.{List}
-use mathlib.Core.Logic.{◌↔◌}
-use native.Mathlib.Nat.{le_trans}
-use native.Mathlib.Omega.{arith}
-use borrow.Author.Tests.{ltb-true, ltb-false, lt-ltb, le-ltb, ne_eqb}
+use Rattle.std.proofs.Common.{ℕ, ◌+◌, ◌-◌, ◌*◌, ◌≤◌, ◌<◌, ◌≡◌, refl, sym, ap, ◌∙◌, subst, true, false, List, ◌↔◌, le_trans, arith, ltb-true, ltb-false, lt-ltb, le-ltb, ne_eqb}
 use Rattle.measure.specs.declared.units.Hundredths.{Hundredths}
 use Rattle.measure.specs.Handed.{most_tons}
 use Rattle.measure.specs.Rounding.{nearest}

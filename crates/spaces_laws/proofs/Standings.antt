@@ -1,13 +1,6 @@
 -- The table of standings says what `MayTake` says of all its places, and of no other; so no standing is over 4, and a space is U, B or S, a
 -- plain H, or R. Stands on Lists.
-use Prim.Native.Nat.{ℕ, zero, suc, ◌+◌, ◌≤◌}
-use mathlib.Core.Path.{◌≡◌, refl}
-use mathlib.Core.Bool.{Bool, true, false, ◌||◌}
-use mathlib.Core.List.{[], ◌∷◌}
-use native.Mathlib.Omega.{arith}
-use borrow.Author.Tests.{eqb-true, ltb-true, ltb-false}
-use lib.Dec.{eqb, ltb}
-use lib.ListN.{get_or}
+use Rattle.std.proofs.Common.{ℕ, zero, suc, ◌+◌, ◌≤◌, ◌≡◌, refl, Bool, true, false, ◌||◌, [], ◌∷◌, arith, eqb-true, ltb-true, ltb-false, eqb, ltb, get_or}
 use Rattle.spaces.specs.declared.space.Space.{Space}
 use Rattle.spaces.specs.Space.{is_hull, is_hatchway}
 use Rattle.standard.specs.Standings.{greatest_standing, may_take}

@@ -1,13 +1,7 @@
 -- A tank is accepted exactly where the facts of `AcceptedTank` hold: so it is an accepted room; and on a valid sheet 7 and 8 never come
 -- from one; and none where no space has m. Stands on Valid, Standings, Recorded.
-use Prim.Native.Nat.{ℕ, ◌<◌}
-use mathlib.Core.Path.{◌≡◌, sym, ap, ◌∙◌}
-use mathlib.Core.Bool.{true, false, not, ◌&&◌, ◌||◌}
-use mathlib.Core.List.{List, [], ◌∷◌}
-use mathlib.Core.Option.{Option, some, map}
-use mathlib.Core.Logic.{◌↔◌}
-use native.Mathlib.Omega.{arith}
-use borrow.Author.Tests.{eqb-true, not-false}
+use Rattle.std.proofs.Common.{ℕ, ◌<◌, ◌≡◌, sym, ap, ◌∙◌, true, false, not, ◌&&◌, ◌||◌, List, [], ◌∷◌, Option, Some, option_map, ◌↔◌, arith, eqb-true}
+use borrow.Author.Tests.{not-false}
 use Rattle.measure.specs.Refusals.{Accept, none as no_more}
 use Rattle.measure.specs.Tanks.{passes_end, has_m, measurable}
 use Rattle.measure.specs.declared.units.Hundredths.{Hundredths}
@@ -54,7 +48,7 @@ module _ (xs : List Space) (x : Space) (r : is_room x ≡ true) (h : InUnderDeck
   abbrev u : Space
   u = h.under_deck
 
-  encloses : enclosing xs x ≡ some u
+  encloses : enclosing xs x ≡ Some u
   encloses = enclosing_of_room xs x r ∙ h.stands
 
   it_is : under_deck_in (enclosing xs x) ≡ u
@@ -181,8 +175,8 @@ unfolding has_m
 none_without_m L xs x f room z =
     let a = facts_of_tank L (all_recorded xs) x f room z in
     by_option (find x.within xs)
-    (λ e. none_not_some (find_recorded x.within xs ∙ ap (map recorded) e) a.inside.stands)
+    (λ e. none_not_some (find_recorded x.within xs ∙ ap (option_map recorded) e) a.inside.stands)
     (λ y e.
-    let same : some (recorded y) ≡ some a.inside.under_deck = sym (find_recorded x.within xs ∙ ap (map recorded) e) ∙ a.inside.stands in
+    let same : Some (recorded y) ≡ Some a.inside.under_deck = sym (find_recorded x.within xs ∙ ap (option_map recorded) e) ∙ a.inside.stands in
     let no_m : a.inside.under_deck.m ≡ 0 = ap (λ (o : Option Space). (space_with o).m) (sym same) in
     not_both a.has_m (rw no_m))

@@ -1,6 +1,5 @@
 -- What "and" and "or" of two tests say. Stands on nothing of the sheet.
-use mathlib.Core.Path.{◌≡◌, refl}
-use mathlib.Core.Bool.{Bool, true, false, ◌&&◌, ◌||◌}
+use Rattle.std.proofs.Common.{◌≡◌, refl, Bool, true, false, ◌&&◌, ◌||◌}
 use Rattle.spaces.proofs.Laws.Cases.{not_both}
 
 pub or_fails_of : (a b : Bool) → a ≡ false → b ≡ false → (a || b) ≡ false

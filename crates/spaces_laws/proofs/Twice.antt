@@ -1,12 +1,6 @@
 -- "No volume is taken off twice": of two spaces that aren't plain neither is anywhere above the other, and E + D + M is not more than T.
 -- Stands on Valid, Standings.
-use Prim.Native.Nat.{ℕ, zero, suc, ◌+◌, ◌≤◌}
-use mathlib.Core.Path.{◌≡◌, refl, sym, ap, ◌∙◌}
-use mathlib.Core.Bool.{Bool, true, false, not, ◌&&◌}
-use mathlib.Core.List.{List, ◌∷◌}
-use mathlib.Core.Option.{some}
-use native.Mathlib.Omega.{arith}
-use lib.Dec.{eqb}
+use Rattle.std.proofs.Common.{ℕ, zero, suc, ◌+◌, ◌≤◌, ◌≡◌, refl, sym, ap, ◌∙◌, Bool, true, false, not, ◌&&◌, List, ◌∷◌, Some, arith, eqb}
 use Rattle.measure.specs.declared.units.Hundredths.{Hundredths}
 use Rattle.spaces.specs.declared.space.Space.{Space}
 use Rattle.spaces.specs.declared.sums.Amount.TheVariants.{Inside, Hull, Exempt, Ballast, Deducted, Machinery}
@@ -108,7 +102,7 @@ module _ (L : Hundredths) (xs : List Space) (s : Sound L xs) where
   home_clear y m r e =
       let o = s.member y m in
       let z = (o.enclosed r).home in
-      let h : enclosing xs y ≡ some z = enclosing_of_room xs y r ∙ (o.enclosed r).home_stands in
+      let h : enclosing xs y ≡ Some z = enclosing_of_room xs y r ∙ (o.enclosed r).home_stands in
       let u : above xs y ≡ z ∷ above xs z = above_of_room xs y h (s.member z (enclosing_stands xs y h)).level_at_most in
       and_holds_of _ _ (ap not (o.enclosed r).no_hatchway) (rw u at e)
 

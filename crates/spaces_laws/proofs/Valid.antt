@@ -1,14 +1,6 @@
 -- What holds of a valid sheet and of every space on it, whatever the order; an accepted entry keeps it. Stands on Entry, Walk.
-use Prim.Native.Nat.{ℕ, ◌+◌, ◌≤◌}
-use mathlib.Core.Path.{◌≡◌, refl, sym, ap, ◌∙◌}
-use mathlib.Core.Bool.{true, ◌&&◌}
+use Rattle.std.proofs.Common.{ℕ, ◌+◌, ◌≤◌, ◌≡◌, refl, sym, ap, ◌∙◌, true, ◌&&◌, List, [], ◌∷◌, ◌++◌, append-nil, None, Some, arith, eqb-true, eqb, length-append}
 use mathlib.Core.List.Memᴰ
-use mathlib.Core.List.{List, [], ◌∷◌, ◌++◌, append-nil}
-use mathlib.Core.Option.{none, some}
-use native.Mathlib.Omega.{arith}
-use borrow.Author.Tests.{eqb-true}
-use lib.Dec.{eqb}
-use lib.ListN.{length-append}
 use lib.Seq.{append_snoc}
 use Rattle.measure.specs.declared.units.Hundredths.{Hundredths}
 use Rattle.spaces.specs.declared.space.Space.{Space}
@@ -42,14 +34,14 @@ unfolding above
 above_kept {L} {xs} s ys y h = upward_append 8 xs ys (λ z m. closed (s.member z m).enclosed) y (closed h)
 
 -- the space found by an id is the one that has it
-pub same_by_id : {xs : List Space} {y z : Space} (id : ℕ) → Member xs y → find id xs ≡ some z → y.id ≡ id → z ≡ y
+pub same_by_id : {xs : List Space} {y z : Space} (id : ℕ) → Member xs y → find id xs ≡ Some z → y.id ≡ id → z ≡ y
 same_by_id {xs} id o e q = some_same e (ap (λ (n : ℕ). find n xs) (sym q) ∙ o.found)
 
 -- ---- one more entry
 
 module _ (L : Hundredths) (xs : List Space) (x : Space) (s : Sound L xs) (a : Accepted L xs x) where
   -- where an id doesn't stand, no room is inside it
-  none_inside : (id : ℕ) → find id xs ≡ none → (y : Space) → (is_room y ≡ true → Enclosed xs y) → amount_of (Inside id) y ≡ 0
+  none_inside : (id : ℕ) → find id xs ≡ None → (y : Space) → (is_room y ≡ true → Enclosed xs y) → amount_of (Inside id) y ≡ 0
   none_inside id absent y h =
       outside_adds_none id y.tonnage y (λ r q. none_not_some absent (rw q at (h r).home_stands))
 

@@ -1,14 +1,6 @@
 -- The enclosing spaces visited (T-07): `visited` counts them, both ways; 8 of them exactly where 7 applies; none exactly where none is
 -- named; and by the level of the named space. Stands on Walk, Valid, Levels.
-use Prim.Native.Nat.{ℕ, zero, suc, ◌+◌, ◌<◌, min}
-use mathlib.Core.Path.{◌≡◌, sym, ap, subst}
-use mathlib.Core.Bool.{true}
-use mathlib.Core.List.{List}
-use mathlib.Core.Option.{none, some}
-use mathlib.Core.Logic.{◌↔◌}
-use native.Mathlib.Omega.{arith}
-use borrow.Author.Tests.{ltb-true, lt-ltb}
-use lib.ListN.{length}
+use Rattle.std.proofs.Common.{ℕ, zero, suc, ◌+◌, ◌<◌, min, ◌≡◌, sym, ap, subst, true, List, None, Some, ◌↔◌, arith, ltb-true, lt-ltb, length}
 use Rattle.measure.specs.declared.units.Hundredths.{Hundredths}
 use Rattle.spaces.specs.declared.space.Space.{Space}
 use Rattle.spaces.specs.Enclosure.{enclosing, upward, above, level, visited}
@@ -58,11 +50,11 @@ eight_exactly xs x = (
 )
 
 -- one more than the named space has, so by its level
-pub visited_by_level : (xs : List Space) (x : Space) {z : Space} → enclosing xs x ≡ some z → visited xs x ≡ min (level xs z) 8
+pub visited_by_level : (xs : List Space) (x : Space) {z : Space} → enclosing xs x ≡ Some z → visited xs x ≡ min (level xs z) 8
 visited_by_level xs x e = omega (arith, level_of_room xs x e)
 
 -- none of them, exactly where no standing space is named
-pub none_exactly : (xs : List Space) (x : Space) → (visited xs x ≡ 0) ↔ (enclosing xs x ≡ none)
+pub none_exactly : (xs : List Space) (x : Space) → (visited xs x ≡ 0) ↔ (enclosing xs x ≡ None)
 unfolding above
 none_exactly xs x = (
   λ z. by_option (enclosing xs x) (λ e. e) (λ y e. absurd (omega (arith, visited_by_level xs x e))),

@@ -1,16 +1,7 @@
 -- The chain upward ("Enclosure"): its equations, that it goes through standing spaces, that it is the same however the sheet goes on,
 -- and what `all_plain`, `among` and `below` say of members. Stands on Lists.
-use Prim.Native.Nat.{ℕ, zero, suc, ◌+◌, ◌≤◌, ◌<◌, min}
-use mathlib.Core.Path.{◌≡◌, refl, sym, ap, ◌∙◌, subst}
-use mathlib.Core.Bool.{true, false}
+use Rattle.std.proofs.Common.{ℕ, zero, suc, ◌+◌, ◌≤◌, ◌<◌, min, ◌≡◌, refl, sym, ap, ◌∙◌, subst, true, false, List, [], ◌∷◌, ◌++◌, None, Some, ◌⊎◌, inl, inr, ⊎_elim, ◌↔◌, arith, eqb-true, eq-eqb, eqb, length}
 use mathlib.Core.List.Memᴰ
-use mathlib.Core.List.{List, [], ◌∷◌, ◌++◌}
-use mathlib.Core.Option.{none, some}
-use mathlib.Core.Logic.{◌⊎◌, inl, inr, ⊎_elim, ◌↔◌}
-use native.Mathlib.Omega.{arith}
-use borrow.Author.Tests.{eqb-true, eq-eqb}
-use lib.Dec.{eqb}
-use lib.ListN.{length}
 use Rattle.spaces.specs.declared.space.Space.{Space}
 use Rattle.spaces.specs.Space.{is_room, is_plain}
 use Rattle.spaces.specs.Row.{find}
@@ -22,13 +13,13 @@ use Rattle.spaces_laws.proofs.Tests.{and_holds, and_holds_of}
 use Rattle.spaces_laws.proofs.Lists.{find_before, found_stands}
 
 -- "Only a room has an enclosing space"
-pub enclosing_of_other : (xs : List Space) (x : Space) → is_room x ≡ false → enclosing xs x ≡ none
+pub enclosing_of_other : (xs : List Space) (x : Space) → is_room x ≡ false → enclosing xs x ≡ None
 enclosing_of_other xs x e = rw e
 
 pub enclosing_of_room : (xs : List Space) (x : Space) → is_room x ≡ true → enclosing xs x ≡ find x.within xs
 enclosing_of_room xs x e = rw e
 
-pub enclosing_stands : (xs : List Space) (y : Space) {z : Space} → enclosing xs y ≡ some z → z ∈ xs
+pub enclosing_stands : (xs : List Space) (y : Space) {z : Space} → enclosing xs y ≡ Some z → z ∈ xs
 enclosing_stands xs y {z} e =
     by_test (is_room y)
     (λ r. (found_stands y.within xs {z = z} (sym (enclosing_of_room xs y r) ∙ e)).0)
@@ -45,7 +36,7 @@ upward_stands (suc left) xs y z m =
 
 -- each room of a sheet has its enclosing space there
 abbrev pub Closed : List Space → Space → Type 0
-Closed xs y = is_room y ≡ true → (z : Space) × (find y.within xs ≡ some z)
+Closed xs y = is_room y ≡ true → (z : Space) × (find y.within xs ≡ Some z)
 
 -- then the walk is the same however the sheet goes on
 pub upward_append : (left : ℕ) (xs ys : List Space) → ((y : Space) → y ∈ xs → Closed xs y)
@@ -105,7 +96,7 @@ pub above_exactly : (xs : List Space) (y z : Space) → level xs y ≤ 8 → (z 
 unfolding above
 above_exactly xs y z h = (above_of_walked 8 xs y z, walked_of_above 8 xs (omega arith))
 
-pub above_of_room : (xs : List Space) (y : Space) {z : Space} → enclosing xs y ≡ some z → level xs z ≤ 8 → above xs y ≡ z ∷ above xs z
+pub above_of_room : (xs : List Space) (y : Space) {z : Space} → enclosing xs y ≡ Some z → level xs z ≤ 8 → above xs y ≡ z ∷ above xs z
 unfolding above
 above_of_room xs y {z} e h =
     ⊎_elim
@@ -118,7 +109,7 @@ pub level_of_other : (xs : List Space) (y : Space) → is_room y ≡ false → l
 unfolding above
 level_of_other xs y r = rw (upward_none 8 xs y (enclosing_of_other xs y r))
 
-pub level_of_room : (xs : List Space) (y : Space) {z : Space} → enclosing xs y ≡ some z → level xs y ≡ min (level xs z + 1) 9
+pub level_of_room : (xs : List Space) (y : Space) {z : Space} → enclosing xs y ≡ Some z → level xs y ≡ min (level xs z + 1) 9
 unfolding above
 level_of_room xs y {z} e =
     let u = ap length (upward_next 7 xs y e) in

@@ -1,6 +1,5 @@
 -- What holds of a valid sheet and of every space on it, whatever the order.
-use Rattle.std.specs.Prelude.{◌≤◌, ◌≡◌, true, false, List, length}
-use Rattle.std.proofs.Math.Option.{some}
+use Rattle.std.specs.Prelude.{◌≤◌, ◌≡◌, true, false, List, length, Some}
 use Rattle.measure.specs.declared.units.Hundredths.{Hundredths}
 use Rattle.spaces.specs.Space.{is_room, is_plain}
 use Rattle.standard.specs.Standings.{may_take}
@@ -13,7 +12,7 @@ use Rattle.spaces_laws.specs.Accepted.{Enclosed}
 
 -- a space among those of a sheet
 pub record Member (xs : List Space) (y : Space) : Type 0 where
-  pub found : find y.id xs ≡ some y
+  pub found : find y.id xs ≡ Some y
   pub id_at_least : 1 ≤ y.id
   pub id_at_most : y.id ≤ 9999
   pub may_take : may_take y.kind y.standing ≡ true

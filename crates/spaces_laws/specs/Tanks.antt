@@ -1,7 +1,6 @@
 -- What holds of an accepted tank (T-01 of document 02): it is accepted as any room, in a standing U with m whose ends it doesn't pass.
 -- Everywhere x is the tank's record, a room, and f the distance of its fore end along the U.
-use Rattle.std.specs.Prelude.{◌≡◌, true, false, List}
-use Rattle.std.proofs.Math.Option.{some}
+use Rattle.std.specs.Prelude.{◌≡◌, true, false, List, Some}
 use Rattle.measure.specs.Tanks.{passes_end, has_m}
 use Rattle.measure.specs.declared.units.Hundredths.{Hundredths}
 use Rattle.spaces.specs.Space.{is_under_deck}
@@ -12,7 +11,7 @@ use Rattle.spaces_laws.specs.Accepted.{Accepted}
 -- "The tank names its U"; "6 also if the enclosing space isn't a U"
 pub record InUnderDeck (xs : List Space) (x : Space) : Type 0 where
   pub under_deck : Space
-  pub stands : find x.within xs ≡ some under_deck
+  pub stands : find x.within xs ≡ Some under_deck
   pub is_under_deck : is_under_deck under_deck ≡ true
 
 -- what the numbers 4 to 10 and 29 leave of a tank

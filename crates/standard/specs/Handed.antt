@@ -1,29 +1,20 @@
 -- What the functions inside the crate answer one another. No promise of a public function cites anything here.
-use Rattle.std.specs.Prelude.{ℕ, ◌+◌, ◌≡◌, Bool, not, ◌&&◌, ◌||◌, List, [], ◌∷◌, leb, ltb}
-use Rattle.std.proofs.Math.Option.{Option, none, some}
+use Rattle.std.specs.Prelude.{ℕ, ◌+◌, ◌≡◌, Bool, not, ◌&&◌, ◌||◌, List, [], ◌∷◌, leb, ltb, Option, None, Some, is_some}
 use Rattle.measure.specs.Refusals.{first_of}
 use Rattle.measure.specs.declared.units.Hundredths.{Hundredths}
 use Rattle.spaces.specs.Space.{is_under_deck, is_room, is_plain}
-use Rattle.spaces.specs.Row.{is_some}
 use Rattle.spaces.specs.declared.space.Space.{Space}
-use Rattle.spaces.specs.declared.row.Found.{Found}
-use Rattle.spaces.specs.declared.row.Found.TheVariants.{At, Nothing}
-use Rattle.spaces.specs.Enclosure.{enclosing, visited}
+use Rattle.spaces.specs.Enclosure.{enclosing}
 use Rattle.spaces.specs.Around.{around_of}
 use Rattle.spaces.specs.declared.around.Around.{Around}
 use Rattle.standard.specs.Standings.{may_take}
 use Rattle.standard.specs.Rules.{in_hatchway, no_place}
 use Rattle.standard.specs.declared.rules.Seen.{Seen}
 
--- a search as the code hands it on, read back
-abbrev pub searched : Found → Option Space
-searched Nothing = none
-searched (At z) = some z
-
 -- 9, by the enclosing space and what the entry is added to
 abbrev pub overfull_by : Hundredths → Space → Option Space → ℕ → Bool
-overfull_by L x none beside = is_under_deck x && ltb L.0 (beside + x.length.0)
-overfull_by L x (some z) beside = ltb z.tonnage (beside + x.tonnage)
+overfull_by L x None beside = is_under_deck x && ltb L.0 (beside + x.length.0)
+overfull_by L x (Some z) beside = ltb z.tonnage (beside + x.tonnage)
 
 -- the tests of whatever is entered, by its enclosing space and what else is around
 abbrev pub judged_tests : Space → Option Space → Around → (misplaced overfull full : Bool) → List (Bool × ℕ)
@@ -50,7 +41,6 @@ entry_number_by L x o a full = judged_number x o a (misplaced_by x o) (overfull_
 
 -- all that judging an entry finds on the spaces xs that stand, as the code has it
 pub record SeenAs (xs : List Space) (x : Space) (r : Seen) : Type 0 where
-  pub found_is : searched r.found ≡ enclosing xs x
+  pub found_is : r.found ≡ enclosing xs x
   pub around_is : r.around ≡ around_of xs x
-  pub visited_is : r.visited ≡ visited xs x
   pub full_is : r.full ≡ no_place xs

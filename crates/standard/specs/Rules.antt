@@ -1,7 +1,6 @@
 -- When an entry, a withdrawal and a mark are refused on the spaces that stand ("Numbers of refusal", 4 to 11): the tests in the
 -- table's order, and the first that applies.
-use Rattle.std.specs.Prelude.{ℕ, ◌+◌, Bool, true, false, not, ◌&&◌, ◌||◌, List, [], ◌∷◌, eqb, ltb, leb, length}
-use Rattle.std.proofs.Math.Option.{Option, none, some}
+use Rattle.std.specs.Prelude.{ℕ, ◌+◌, Bool, true, false, not, ◌&&◌, ◌||◌, List, [], ◌∷◌, eqb, ltb, leb, length, Option, None, Some}
 use Rattle.measure.specs.Refusals.{first_of}
 use Rattle.measure.specs.declared.units.Hundredths.{Hundredths}
 use Rattle.spaces.specs.Space.{is_under_deck, is_hatchway, is_room, is_plain}
@@ -23,8 +22,8 @@ unhoused xs x = is_room x && not (stands x.within xs)
 
 -- 6: "kind can't take this standing, or the enclosing space is a hatchway"
 abbrev pub in_hatchway : Option Space → Bool
-in_hatchway none = false
-in_hatchway (some z) = is_hatchway z
+in_hatchway None = false
+in_hatchway (Some z) = is_hatchway z
 
 abbrev pub misplaced : List Space → Space → Bool
 misplaced xs x = not (may_take x.kind x.standing) || in_hatchway (enclosing xs x)
@@ -39,8 +38,8 @@ off_twice xs x = not (is_plain x) && not (all_plain (above xs x))
 
 -- 9: "rooms would pass the enclosing tonnage, or U lengths the tonnage length" L
 abbrev pub passes_enclosing : List Space → Space → Option Space → Bool
-passes_enclosing xs x none = false
-passes_enclosing xs x (some z) = ltb z.tonnage (sum_of (Inside x.within) xs + x.tonnage)
+passes_enclosing xs x None = false
+passes_enclosing xs x (Some z) = ltb z.tonnage (sum_of (Inside x.within) xs + x.tonnage)
 
 abbrev pub overfull : Hundredths → List Space → Space → Bool
 overfull L xs x = passes_enclosing xs x (enclosing xs x) || (is_under_deck x && ltb L.0 (sum_of Lengths xs + x.length.0))
@@ -87,13 +86,13 @@ withdraw_ruling xs id = record { number = withdraw_number xs id; place = place_o
 
 -- 6 of a mark: the kind of the space with the id can't take the standing
 abbrev pub cannot_take : Option Space → ℕ → Bool
-cannot_take none standing = false
-cannot_take (some z) standing = not (may_take z.kind standing)
+cannot_take None standing = false
+cannot_take (Some z) standing = not (may_take z.kind standing)
 
 -- 8 of a mark: "not plain, and a space above or below isn't plain"
 abbrev pub plain_above : List Space → Option Space → Bool
-plain_above xs none = true
-plain_above xs (some z) = all_plain (above xs z)
+plain_above xs None = true
+plain_above xs (Some z) = all_plain (above xs z)
 
 abbrev pub marked_twice : List Space → ℕ → ℕ → Bool
 marked_twice xs id standing = not (eqb standing 0) && not (plain_above xs (find id xs) && all_plain (below id xs))

@@ -1,7 +1,6 @@
 -- When the entry of a tank is refused on the spaces that stand (T-01 of document 02): as a room's, and by the U that it names. Everywhere
 -- x is the tank's record, a room, and f the distance of its fore end along the U.
-use Rattle.std.specs.Prelude.{ℕ, Bool, false, cond, not, ◌&&◌, ◌||◌, List, [], ◌∷◌, ◌++◌}
-use Rattle.std.proofs.Math.Option.{Option, none, some}
+use Rattle.std.specs.Prelude.{ℕ, Bool, false, cond, not, ◌&&◌, ◌||◌, List, [], ◌∷◌, ◌++◌, Option, None, Some}
 use Rattle.measure.specs.Refusals.{first_of}
 use Rattle.measure.specs.Tanks.{passes_end, has_m, measurable}
 use Rattle.measure.specs.declared.units.Hundredths.{Hundredths}
@@ -23,8 +22,8 @@ under_deck_with id xs = under_deck_in (find id xs)
 
 -- "6 also if the enclosing space isn't a U"; no more that depends on the U is judged there
 abbrev pub in_no_under_deck : Option Space → Bool
-in_no_under_deck none = false
-in_no_under_deck (some z) = not (is_under_deck z)
+in_no_under_deck None = false
+in_no_under_deck (Some z) = not (is_under_deck z)
 
 -- "9 also if the tank passes an end of its U"
 abbrev pub past_end : Option Space → Space → Hundredths → Bool

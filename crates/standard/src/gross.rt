@@ -1,12 +1,11 @@
 // Gross and net ("Gross and net"), in hundredths of a ton.
-ghost use Rattle.std.specs.Prelude.{◌≡◌, ◌-◌, ◌*◌, ◌≤◌, take};
+ghost use Rattle.std.specs.Prelude.{◌≡◌, ◌*◌, ◌≤◌};
 ghost use Rattle.spaces.specs.Row.{most_sum};
 ghost use Rattle.standard.specs.Gross.{gross_over, reckoned};
 
 use crate::machinery::engine_room_deduction;
 use measure::allowances::{ballast_over, hatchway_excess};
-use spaces::space::Space;
-use spaces::sums::total_up;
+use spaces::row::Row;
 
 // What a report works out: the lengths of all U, gross, net, whether water ballast needs the mark 'justified', and whether deductions
 // pass gross.
@@ -19,15 +18,15 @@ pub struct Reckoning {
     pub deductions_pass: bool,
 }
 
-pub fn reckon(spaces: [Space; 200], count: usize) -> Reckoning
-    ensures { result ≡ reckoned (take count spaces) }
+pub fn reckon(row: Row) -> Reckoning
+    ensures { result ≡ reckoned row.entry.spaces.now }
 {
-    let sums = total_up(spaces, count);
-    let g = less(sums.hull, sums.exempt + sums.ballast);
+    let sums = row.total_up();
+    let g = sums.hull.saturating_sub(sums.exempt + sums.ballast);
     let gross = gross_over(g, sums.hatchways);
     let deductions = sums.deducted + engine_room_deduction(sums.machinery, gross);
-    let net = less(gross, deductions);
-    let with_ballast = gross_over(less(sums.hull, sums.exempt), sums.hatchways);
+    let net = gross.saturating_sub(deductions);
+    let with_ballast = gross_over(sums.hull.saturating_sub(sums.exempt), sums.hatchways);
     let needs_mark = ballast_over(sums.ballast, with_ballast);
     Reckoning {
         lengths: sums.lengths,
@@ -39,19 +38,10 @@ pub fn reckon(spaces: [Space; 200], count: usize) -> Reckoning
 }
 
 // G and the excess of the hatchways over its half percent.
+#[tactic(auto, unfolding(crate::specs::Gross::gross_over, measure::specs::Allowances::hatchway_excess))]
 fn gross_over(g: u64, hatchways: u64) -> u64
     requires { (g ≤ most_sum) × (hatchways ≤ most_sum) }
     ensures { (result ≡ gross_over g hatchways) × (result ≤ 2 * most_sum) }
 {
     g + hatchway_excess(g, hatchways)
-}
-
-// A difference, or 0.
-fn less(a: u64, b: u64) -> u64
-    ensures { result ≡ a - b }
-{
-    if a <= b {
-        return 0;
-    }
-    a - b
 }

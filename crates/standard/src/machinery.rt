@@ -1,5 +1,5 @@
 // The engine room deduction of a vessel with screws (T-06 of document 02; 69.121(e)(2)), in hundredths of a ton.
-ghost use Rattle.std.specs.Prelude.{◌≡◌, ◌*◌, ◌≤◌, max};
+ghost use Rattle.std.specs.Prelude.{◌≡◌, ◌*◌, ◌≤◌};
 ghost use Rattle.spaces.specs.Row.{most_sum};
 ghost use Rattle.standard.specs.Machinery.{engine_room_deduction};
 
@@ -18,6 +18,7 @@ const SHARE: u64 = 32;
 const QUARTERS: u64 = 7;
 
 // The deduction from a gross for machinery rooms of so many tons, m.
+#[tactic(auto, unfolding(measure::specs::Rounding::nearest), using(crate::proofs::Laws::Machinery::classes))]
 pub(crate) fn engine_room_deduction(m: u64, gross: u64) -> u64
     requires { (m ≤ most_sum) × (gross ≤ 2 * most_sum) }
     ensures { (result ≡ engine_room_deduction m gross) × (result ≤ 4 * most_sum) }
@@ -30,14 +31,5 @@ pub(crate) fn engine_room_deduction(m: u64, gross: u64) -> u64
     if of_rooms < THIRD_CLASS * gross {
         return of_gross;
     }
-    greater(of_gross, nearest(QUARTERS * m, 4))
-}
-
-fn greater(a: u64, b: u64) -> u64
-    ensures { result ≡ max a b }
-{
-    if a <= b {
-        return b;
-    }
-    a
+    of_gross.max(nearest(QUARTERS * m, 4))
 }

@@ -1,4 +1,5 @@
-// The numbers of refusal that these rules give ("Numbers of refusal").
+// The numbers of refusal that these rules give ("Numbers of refusal"). No enum, since the definitions (specs/Rules) and the rulings, which
+// hold 0 where nothing is refused, speak of the numbers.
 
 // New id outside its range or already standing.
 pub const ID_TAKEN: u8 = 4;

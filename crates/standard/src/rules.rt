@@ -1,12 +1,11 @@
 // When an entry, a withdrawal and a mark are refused on the spaces that stand ("Numbers of refusal", 4 to 11): a
 // function for each test, in the table's order.
-ghost use Rattle.std.specs.Prelude.{◌≡◌, not, cond, ◌&&◌, ◌||◌, ◌+◌, eqb, ltb, take};
-ghost use Rattle.std.proofs.Math.Option.{none, some};
-ghost use Rattle.spaces.specs.Space.{empty_space, is_room, is_plain};
-ghost use Rattle.spaces.specs.Row.{is_some};
+ghost use Rattle.std.specs.Prelude.{◌≡◌, not, ◌&&◌, ◌||◌, ◌+◌, eqb, ltb, is_some, slice_get};
+ghost use Rattle.spaces.specs.Space.{is_room, is_plain};
+ghost use Rattle.spaces.specs.Row.{find, place_of, space_with};
 ghost use Rattle.spaces.specs.Enclosure.{above, all_plain, below};
-ghost use Rattle.standard.specs.Rules.{entry_number, entry_ruling, encloses_room, withdraw_ruling, mark_ruling};
-ghost use Rattle.standard.specs.Handed.{searched, overfull_by, judged_number, misplaced_by, entry_number_by, SeenAs};
+ghost use Rattle.standard.specs.Rules.{entry_number, entry_ruling, encloses_room, withdraw_number, withdraw_ruling, mark_number, mark_ruling};
+ghost use Rattle.standard.specs.Handed.{overfull_by, judged_number, misplaced_by, entry_number_by, SeenAs};
 
 use crate::refusals::{
     ENCLOSES_ROOM, ID_TAKEN, MISPLACED, NO_PLACE, NOT_STANDING, OFF_TWICE, OVERFULL, TOO_DEEP,
@@ -14,16 +13,17 @@ use crate::refusals::{
 use crate::standings::may_take;
 use measure::kinds::{HATCHWAY, ROOM, UNDER_DECK};
 use measure::units::Hundredths;
-use spaces::around::{Around, around_space};
-use spaces::enclosure::{LEVELS, all_above, plain_below};
-use spaces::row::{Found, PLACES, lesser, place_of, used};
+use spaces::around::Around;
+use spaces::enclosure::LEVELS;
+use spaces::row::{PLACES, Row};
 use spaces::space::{Space, empty};
-use spaces::sums::{Amount, sum};
+use spaces::sums::Amount;
 
 // Ids go from 1 to 9,999.
 pub const GREATEST_ID: u16 = 9_999;
 
-// An entry judged: the number with which it is refused, or 0, and how many enclosing spaces were visited, whatever the number.
+// An entry judged: the number with which it is refused, or 0, and how many enclosing spaces were visited, whatever the number. The
+// paper's number and no `Result`, here and in the rulings below, since the definitions (specs/Rules) and the theorems on them have it so.
 #[derive(Clone, Copy)]
 pub struct EntryRuling {
     pub number: u8,
@@ -31,7 +31,7 @@ pub struct EntryRuling {
 }
 
 // A withdrawal or a mark judged: the number with which it is refused, or 0, and the space with its id and the place of that, from 0;
-// an empty record and as many as stand where none has it.
+// an empty record and as many as stand where none has it, and no `Option`, as the definitions (`withdraw_ruling`, `mark_ruling`) have it.
 #[derive(Clone, Copy)]
 pub struct Ruling {
     pub number: u8,
@@ -39,13 +39,11 @@ pub struct Ruling {
     pub space: Space,
 }
 
-// What an entry finds on the spaces that stand: its enclosing space, what else is around it, how many enclosing spaces were visited,
-// and whether 200 stand.
+// What an entry finds on the spaces that stand: its enclosing space, what else is around it, and whether 200 stand.
 #[derive(Clone, Copy)]
 pub(crate) struct Seen {
-    pub(crate) found: Found,
+    pub(crate) found: Option<Space>,
     pub(crate) around: Around,
-    pub(crate) visited: u8,
     pub(crate) full: bool,
 }
 
@@ -53,60 +51,42 @@ pub(crate) struct Seen {
 fn id_refused(x: Space, taken: bool) -> bool
     ensures { result ≡ (ltb x.id 1 || ltb 9999 x.id || taken) }
 {
-    if x.id < 1 {
-        return true;
-    }
-    if GREATEST_ID < x.id {
-        return true;
-    }
-    taken
+    x.id < 1 || GREATEST_ID < x.id || taken
 }
 
 // 5: a room's enclosing id isn't standing.
-fn unhoused(x: Space, found: Found) -> bool
-    ensures { result ≡ (is_room x && not (is_some (searched found))) }
+fn unhoused(x: Space, found: Option<Space>) -> bool
+    ensures { result ≡ (is_room x && not (is_some found)) }
 {
-    match found {
-        Found::At(_) => false,
-        Found::Nothing => x.kind == ROOM,
-    }
+    x.kind == ROOM && found.is_none()
 }
 
 // 6: kind can't take this standing, or the enclosing space is a hatchway.
-pub(crate) fn misplaced(x: Space, found: Found) -> bool
-    ensures { result ≡ misplaced_by x (searched found) }
+pub(crate) fn misplaced(x: Space, found: Option<Space>) -> bool
+    ensures { result ≡ misplaced_by x found }
 {
-    if !may_take(x.kind, x.standing) {
-        return true;
-    }
-    match found {
-        Found::At(z) => z.kind == HATCHWAY,
-        Found::Nothing => false,
-    }
+    !may_take(x.kind, x.standing) || found.is_some_and(|z| z.kind == HATCHWAY)
 }
 
 // 8: not plain, and a space above isn't plain.
 fn off_twice(x: Space, plain_above: bool) -> bool
     ensures { result ≡ (not (is_plain x) && not plain_above) }
 {
-    if x.standing == 0 {
-        return false;
-    }
-    !plain_above
+    x.standing != 0 && !plain_above
 }
 
 // 9: rooms would pass the enclosing tonnage, or U lengths the tonnage length.
-pub(crate) fn overfull(x: Space, tonnage_length: Hundredths, found: Found, beside: u64) -> bool
-    ensures { result ≡ overfull_by tonnage_length x (searched found) beside }
+pub(crate) fn overfull(
+    x: Space,
+    tonnage_length: Hundredths,
+    found: Option<Space>,
+    beside: u64,
+) -> bool
+    ensures { result ≡ overfull_by tonnage_length x found beside }
 {
     match found {
-        Found::At(z) => passes(beside, x.tonnage, z.tonnage),
-        Found::Nothing => {
-            if x.kind == UNDER_DECK {
-                return passes(beside, x.length.0, tonnage_length.0);
-            }
-            false
-        }
+        Some(z) => passes(beside, x.tonnage, z.tonnage),
+        None => x.kind == UNDER_DECK && passes(beside, x.length.0, tonnage_length.0),
     }
 }
 
@@ -114,30 +94,19 @@ pub(crate) fn overfull(x: Space, tonnage_length: Hundredths, found: Found, besid
 fn passes(sum: u64, more: u32, limit: u32) -> bool
     ensures { result ≡ ltb limit (sum + more) }
 {
-    let most = limit as u64;
-    if most < sum {
-        return true;
-    }
-    most - sum < more as u64
+    u64::from(limit) < sum.saturating_add(u64::from(more))
 }
 
-// The number with which x is refused, or 0, by its enclosing space, what else is around it, whether 6 and 9 apply, and whether 200
-// spaces stand.
+// The number with which x is refused, or 0 as `first_of` answers it, by what it finds and whether 6 and 9 apply.
 #[tactic(auto, unfolding(crate::specs::Handed::judged_number))]
-pub(crate) fn judged(
-    x: Space,
-    found: Found,
-    around: Around,
-    misplaced: bool,
-    overfull: bool,
-    full: bool,
-) -> u8
-    ensures { result ≡ judged_number x (searched found) around misplaced overfull full }
+pub(crate) fn judged(x: Space, seen: Seen, misplaced: bool, overfull: bool) -> u8
+    ensures { result ≡ judged_number x seen.found seen.around misplaced overfull seen.full }
 {
+    let around = seen.around;
     if id_refused(x, around.taken) {
         return ID_TAKEN;
     }
-    if unhoused(x, found) {
+    if unhoused(x, seen.found) {
         return NOT_STANDING;
     }
     if misplaced {
@@ -152,141 +121,139 @@ pub(crate) fn judged(
     if overfull {
         return OVERFULL;
     }
-    if full {
+    if seen.full {
         return NO_PLACE;
     }
     0
 }
 
-// The number with which an entry of x is refused, or 0, by its enclosing space, what else is around it, and whether 200 spaces stand.
-pub(crate) fn judged_entry(
-    x: Space,
-    tonnage_length: Hundredths,
-    found: Found,
-    around: Around,
-    full: bool,
-) -> u8
-    ensures { result ≡ entry_number_by tonnage_length x (searched found) around full }
+// The number with which an entry of x is refused, or 0, by what it finds.
+pub(crate) fn judged_entry(x: Space, tonnage_length: Hundredths, seen: Seen) -> u8
+    ensures { result ≡ entry_number_by tonnage_length x seen.found seen.around seen.full }
 {
-    let misplaced = misplaced(x, found);
-    let overfull = overfull(x, tonnage_length, found, around.beside);
-    judged(x, found, around, misplaced, overfull, full)
+    let misplaced = misplaced(x, seen.found);
+    let overfull = overfull(x, tonnage_length, seen.found, seen.around.beside);
+    judged(x, seen, misplaced, overfull)
 }
 
-// The space z, where it is the enclosing one.
-pub(crate) fn found_if(enclosed: bool, z: Space) -> Found
-    ensures { searched result ≡ cond enclosed (some z) none }
+// The space at a place, from 0, if it is one of some spaces' places.
+pub(crate) fn space_at(spaces: &[Space], place: usize) -> Option<Space>
+    ensures { result ≡ slice_get spaces.now place }
 {
-    if enclosed {
-        return Found::At(z);
-    }
-    Found::Nothing
+    spaces.get(place).copied()
 }
 
 // What an entry of x finds.
-pub(crate) fn see(spaces: [Space; 200], count: usize, x: Space) -> Seen
-    ensures { SeenAs (take count spaces) x result }
+pub(crate) fn see(row: Row, x: Space) -> Seen
+    ensures { SeenAs row.entry.spaces.now x result }
 {
-    let n = used(count);
-    let around = around_space(spaces, count, x);
-    let home = around.home;
-    let z = spaces[lesser(home, PLACES - 1)];
+    let around = row.around_space(x);
     Seen {
-        found: found_if(home < n, z),
+        found: space_at(row.spaces, around.home),
         around,
-        visited: around.levels as u8,
-        full: PLACES <= n,
+        full: PLACES <= row.spaces.len(),
     }
 }
 
 // An entry of x judged: 4 to 10.
-pub fn entry_ruling(
-    spaces: [Space; 200],
-    count: usize,
-    tonnage_length: Hundredths,
-    x: Space,
-) -> EntryRuling
-    ensures { result ≡ entry_ruling (entry_number tonnage_length (take count spaces) x) (take count spaces) x }
+pub fn entry_ruling(row: Row, tonnage_length: Hundredths, x: Space) -> EntryRuling
+    ensures { result ≡ entry_ruling (entry_number tonnage_length row.entry.spaces.now x) row.entry.spaces.now x }
 {
-    let seen = see(spaces, count, x);
-    let found = seen.found;
-    let around = seen.around;
+    let seen = see(row, x);
     EntryRuling {
-        number: judged_entry(x, tonnage_length, found, around, seen.full),
-        visited: seen.visited,
+        number: judged_entry(x, tonnage_length, seen),
+        visited: seen.around.levels,
     }
 }
 
 // 11: withdrawal of a space that encloses a room.
-fn encloses_room(spaces: [Space; 200], count: usize, id: u16) -> bool
-    ensures { result ≡ encloses_room (take count spaces) id }
+fn encloses_room(row: Row, id: u16) -> bool
+    ensures { result ≡ encloses_room row.entry.spaces.now id }
 {
-    0 < sum(spaces, count, Amount::Rooms(id))
+    0 < row.sum(Amount::Rooms(id))
 }
 
-// A withdrawal judged: 5 and 11. The space with the id is searched for once.
-pub fn withdraw_ruling(spaces: [Space; 200], count: usize, id: u16) -> Ruling
-    ensures { result ≡ withdraw_ruling (take count spaces) id }
-{
-    let place = place_of(spaces, count, id);
-    if used(count) <= place {
-        return unfound(place);
+// The space with an id, searched for once: its place, from 0, and itself; as many as stand and none where none has it.
+#[derive(Clone, Copy)]
+struct Sought {
+    place: usize,
+    found: Option<Space>,
+}
+
+impl Sought {
+    #[tactic(auto, using(crate::proofs::Laws::Judged::found_there))]
+    fn of(row: Row, id: u16) -> Self
+        ensures { result ≡ record { place = place_of id row.entry.spaces.now; found = find id row.entry.spaces.now } }
+    {
+        let place = row.place_of(id);
+        Sought {
+            place,
+            found: space_at(row.spaces, place),
+        }
     }
-    let space = spaces[place];
-    let mut number = 0;
-    if encloses_room(spaces, count, id) {
-        number = ENCLOSES_ROOM;
-    }
-    Ruling {
-        number,
-        place,
-        space,
+
+    // A ruling on it.
+    fn ruling(self, number: u8) -> Ruling
+        ensures { result ≡ record { number = number; place = self.place; space = space_with self.found } }
+    {
+        Ruling {
+            number,
+            place: self.place,
+            space: self.found.unwrap_or(empty()),
+        }
     }
 }
 
-// 5: none has the id.
-fn unfound(place: usize) -> Ruling
-    ensures { result ≡ record { number = 5; place = place; space = empty_space } }
+// A withdrawal judged: 5 and 11.
+#[tactic(auto, unfolding(crate::specs::Rules::withdraw_ruling))]
+pub fn withdraw_ruling(row: Row, id: u16) -> Ruling
+    ensures { result ≡ withdraw_ruling row.entry.spaces.now id }
 {
-    Ruling {
-        number: NOT_STANDING,
-        place,
-        space: empty(),
+    let sought = Sought::of(row, id);
+    sought.ruling(withdraw_number(row, id, sought.found))
+}
+
+// The number, or 0 as `first_of` answers it, by the space with the id, if it stands.
+#[tactic(auto, unfolding(crate::specs::Rules::withdraw_number))]
+fn withdraw_number(row: Row, id: u16, found: Option<Space>) -> u8
+    requires { found ≡ find id row.spaces.now }
+    ensures { result ≡ withdraw_number row.entry.spaces.now id }
+{
+    if found.is_none() {
+        NOT_STANDING
+    } else if encloses_room(row, id) {
+        ENCLOSES_ROOM
+    } else {
+        0
     }
 }
 
 // 8 of a mark: not plain, and a space above or below isn't plain.
-fn marked_twice(spaces: [Space; 200], count: usize, z: Space, id: u16, standing: u8) -> bool
-    ensures { result ≡ (not (eqb standing 0) && not (all_plain (above (take count spaces) z) && all_plain (below id (take count spaces)))) }
+fn marked_twice(row: Row, z: Space, id: u16, standing: u8) -> bool
+    ensures { result ≡ (not (eqb standing 0) && not (all_plain (above row.entry.spaces.now z) && all_plain (below id row.entry.spaces.now))) }
 {
-    if standing == 0 {
-        return false;
-    }
-    let up = all_above(spaces, count, z);
-    if !up.plain {
-        return true;
-    }
-    !plain_below(spaces, count, id)
+    standing != 0 && !(row.all_above(z).plain && row.plain_below(id))
 }
 
 // A mark judged in the same way: 5, 6 and 8.
-pub fn mark_ruling(spaces: [Space; 200], count: usize, id: u16, standing: u8) -> Ruling
-    ensures { result ≡ mark_ruling (take count spaces) id standing }
+#[tactic(auto, unfolding(crate::specs::Rules::mark_ruling))]
+pub fn mark_ruling(row: Row, id: u16, standing: u8) -> Ruling
+    ensures { result ≡ mark_ruling row.entry.spaces.now id standing }
 {
-    let place = place_of(spaces, count, id);
-    if used(count) <= place {
-        return unfound(place);
-    }
-    let space = spaces[place];
-    let mut number = 0;
-    if !may_take(space.kind, standing) {
-        number = MISPLACED;
-    } else if marked_twice(spaces, count, space, id, standing) {
-        number = OFF_TWICE;
-    }
-    Ruling {
-        number,
-        place,
-        space,
+    let sought = Sought::of(row, id);
+    sought.ruling(mark_number(row, id, standing, sought.found))
+}
+
+// The number, or 0 as `first_of` answers it, by the space with the id, if it stands.
+#[tactic(auto, unfolding(crate::specs::Rules::mark_number))]
+fn mark_number(row: Row, id: u16, standing: u8, found: Option<Space>) -> u8
+    requires { found ≡ find id row.spaces.now }
+    ensures { result ≡ mark_number row.entry.spaces.now id standing }
+{
+    match found {
+        None => NOT_STANDING,
+        Some(z) if !may_take(z.kind, standing) => MISPLACED,
+        Some(z) if marked_twice(row, z, id, standing) => OFF_TWICE,
+        Some(_) => 0,
     }
 }

@@ -14,20 +14,14 @@ const STANDINGS: [[bool; 5]; 5] = [
     [true, true, true, true, true],
 ];
 
-// Whether a kind may have a standing; no, where one of them is outside the table.
+// Whether a kind may have a standing; no, where one of them is outside the table. Kinds go from 1, so that by `get` it would be a
+// subtraction that can fail and two places that can be missing, no plainer than the three tests.
+#[tactic(auto, using(crate::proofs::Laws::Standings::table))]
 pub fn may_take(kind: u8, standing: u8) -> bool
     ensures { result ≡ may_take kind standing }
 {
-    if kind < 1 {
+    if kind < 1 || 5 < kind || GREATEST_STANDING < standing {
         return false;
     }
-    if 5 < kind {
-        return false;
-    }
-    if GREATEST_STANDING < standing {
-        return false;
-    }
-    let row = (kind - 1) as usize;
-    let column = standing as usize;
-    STANDINGS[row][column]
+    STANDINGS[usize::from(kind - 1)][usize::from(standing)]
 }

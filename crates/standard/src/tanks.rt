@@ -1,135 +1,104 @@
 // When the entry of a tank is refused on the spaces that stand (T-01 of document 02): as a room's, and by the U that it names.
-ghost use Rattle.std.specs.Prelude.{◌≡◌, not, ◌&&◌, ◌||◌, [], ◌∷◌, eqb, take};
+ghost use Rattle.std.specs.Prelude.{◌≡◌, not, ◌&&◌, ◌||◌, [], ◌∷◌, eqb};
 ghost use Rattle.measure.specs.Refusals.{first_of};
 ghost use Rattle.standard.specs.Rules.{entry_ruling};
 ghost use Rattle.standard.specs.Tanks.{under_deck_in, under_deck_with, in_no_under_deck, past_end, measurable_in, without_m, tank_number};
-ghost use Rattle.standard.specs.Handed.{searched, misplaced_by, overfull_by};
+ghost use Rattle.standard.specs.Handed.{misplaced_by, overfull_by};
 
 use crate::rules::{EntryRuling, judged, misplaced, overfull, see};
 use measure::kinds::UNDER_DECK;
 use measure::refusals::NO_M;
 use measure::tanks::{has_m, passes_end};
 use measure::units::Hundredths;
-use spaces::row::{Found, find};
+use spaces::row::Row;
 use spaces::space::{Space, empty};
 
-// A space that was looked for, if it is a U; else an empty record.
-fn under_deck_in(found: Found) -> Space
-    ensures { result ≡ under_deck_in (searched found) }
+// A space that was looked for, if it is a U; else an empty record, and no `Option`, as the definitions (specs/Tanks) have it.
+fn under_deck_in(found: Option<Space>) -> Space
+    ensures { result ≡ under_deck_in found }
 {
     match found {
-        Found::At(z) => {
-            if z.kind == UNDER_DECK {
-                return z;
-            }
-            empty()
-        }
-        Found::Nothing => empty(),
+        Some(z) if z.kind == UNDER_DECK => z,
+        _ => empty(),
     }
 }
 
 // The standing U with an id; an empty record where there is none.
-pub fn under_deck_with(spaces: [Space; 200], count: usize, id: u16) -> Space
-    ensures { result ≡ under_deck_with id (take count spaces) }
+#[tactic(auto, unfolding(crate::specs::Tanks::under_deck_with))]
+pub fn under_deck_with(row: Row, id: u16) -> Space
+    ensures { result ≡ under_deck_with id row.entry.spaces.now }
 {
-    under_deck_in(find(spaces, count, id))
+    under_deck_in(row.find(id))
 }
 
 // 6 of a tank: as of any room, and where the enclosing space isn't a U.
-fn tank_misplaced(x: Space, found: Found) -> bool
-    ensures { result ≡ (misplaced_by x (searched found) || in_no_under_deck (searched found)) }
+fn tank_misplaced(x: Space, found: Option<Space>) -> bool
+    ensures { result ≡ (misplaced_by x found || in_no_under_deck found) }
 {
-    if misplaced(x, found) {
-        return true;
-    }
-    match found {
-        Found::At(z) => z.kind != UNDER_DECK,
-        Found::Nothing => false,
-    }
+    misplaced(x, found) || found.is_some_and(|z| z.kind != UNDER_DECK)
 }
 
 // 9: the tank passes an end of its U.
-fn past_end(found: Found, x: Space, fore: Hundredths) -> bool
-    ensures { result ≡ past_end (searched found) x fore }
+fn past_end(found: Option<Space>, x: Space, fore: Hundredths) -> bool
+    ensures { result ≡ past_end found x fore }
 {
     let u = under_deck_in(found);
-    if u.kind != UNDER_DECK {
-        return false;
-    }
-    passes_end(u.length, x.length, fore)
+    u.kind == UNDER_DECK && passes_end(u.length, x.length, fore)
 }
 
 // The tank has a tonnage to be judged by: its U has m, and it doesn't pass an end.
-fn measurable_in(found: Found, x: Space, fore: Hundredths) -> bool
-    ensures { result ≡ measurable_in (searched found) x fore }
+fn measurable_in(found: Option<Space>, x: Space, fore: Hundredths) -> bool
+    ensures { result ≡ measurable_in found x fore }
 {
     let u = under_deck_in(found);
-    if !has_m(u.m) {
-        return false;
-    }
-    !passes_end(u.length, x.length, fore)
+    has_m(u.m) && !passes_end(u.length, x.length, fore)
 }
 
 // 9 of a tank: it passes an end of its U, or rooms would pass the U's tonnage.
 fn tank_overfull(
     x: Space,
     tonnage_length: Hundredths,
-    found: Found,
+    found: Option<Space>,
     beside: u64,
     fore: Hundredths,
 ) -> bool
-    ensures { result ≡ (past_end (searched found) x fore || (measurable_in (searched found) x fore && overfull_by tonnage_length x (searched found) beside)) }
+    ensures { result ≡ (past_end found x fore || (measurable_in found x fore && overfull_by tonnage_length x found beside)) }
 {
-    if past_end(found, x, fore) {
-        return true;
-    }
-    if !measurable_in(found, x, fore) {
-        return false;
-    }
-    overfull(x, tonnage_length, found, beside)
+    past_end(found, x, fore)
+        || (measurable_in(found, x, fore) && overfull(x, tonnage_length, found, beside))
 }
 
 // 29: the U has no m.
-fn without_m(found: Found) -> bool
-    ensures { result ≡ without_m (searched found) }
+fn without_m(found: Option<Space>) -> bool
+    ensures { result ≡ without_m found }
 {
     let u = under_deck_in(found);
-    if u.kind == UNDER_DECK {
-        return !has_m(u.m);
-    }
-    false
+    u.kind == UNDER_DECK && !has_m(u.m)
 }
 
-// The number that the other tests gave, and 29 after them all.
-fn judged_by_m(number: u8, found: Found) -> u8
-    ensures { result ≡ first_of ((not (eqb number 0), number) ∷ (without_m (searched found), 29) ∷ []) }
+// The number that the other tests gave, and 29 after them all. The ends of a U have their like in `sheet` (`judged_by_ends`): a function
+// for both, of the test and its number, would be this one `if` again.
+fn judged_by_m(number: u8, found: Option<Space>) -> u8
+    ensures { result ≡ first_of ((not (eqb number 0), number) ∷ (without_m found, 29) ∷ []) }
 {
-    if number == 0 {
-        if without_m(found) {
-            return NO_M;
-        }
+    if number == 0 && without_m(found) {
+        NO_M
+    } else {
+        number
     }
-    number
 }
 
 // The entry of a tank judged: 4 to 10, and 29. x is its record.
-pub fn tank_ruling(
-    spaces: [Space; 200],
-    count: usize,
-    tonnage_length: Hundredths,
-    x: Space,
-    fore: Hundredths,
-) -> EntryRuling
-    ensures { result ≡ entry_ruling (tank_number tonnage_length (take count spaces) x fore) (take count spaces) x }
+pub fn tank_ruling(row: Row, tonnage_length: Hundredths, x: Space, fore: Hundredths) -> EntryRuling
+    ensures { result ≡ entry_ruling (tank_number tonnage_length row.entry.spaces.now x fore) row.entry.spaces.now x }
 {
-    let seen = see(spaces, count, x);
+    let seen = see(row, x);
     let found = seen.found;
-    let around = seen.around;
     let misplaced = tank_misplaced(x, found);
-    let overfull = tank_overfull(x, tonnage_length, found, around.beside, fore);
-    let number = judged(x, found, around, misplaced, overfull, seen.full);
+    let overfull = tank_overfull(x, tonnage_length, found, seen.around.beside, fore);
+    let number = judged(x, seen, misplaced, overfull);
     EntryRuling {
         number: judged_by_m(number, found),
-        visited: seen.visited,
+        visited: seen.around.levels,
     }
 }

@@ -1,27 +1,19 @@
 // Answer lines. The first number of each is the paper's number of refusal, 0 for accepted; a line that is no call is
 // answered by a remark. What a call handed back is answered, and its sheet handed on.
-ghost use Rattle.std.specs.Prelude.{◌+◌, ◌<◌, ◌≤◌, length};
+ghost use Rattle.std.specs.Prelude.{◌≤◌, length};
 
 use dayfile::{Moved, Reading, Written};
 use measure::kinds::UNDER_DECK;
 use measure::roundings::Roundings;
 use measure::tanks;
 use measure::units::Hundredths;
-use script::remarks::Remark;
-use script::{hex, remarks};
+use script::hex;
 use sheet::{Changed, Counted, Entering, Reported, Sheet, TankEntering};
 use spaces::space::Space;
 use std::fmt::Display;
 use std::io;
 
 const BYTES_AT_A_TIME: usize = 2048;
-
-pub fn remark(rt: &impl Print, remark: Remark) -> io::Result<()> {
-    let mut text = [0u8; 32];
-    let n = remarks::remark_text(remark, &mut text);
-    rt.write_all(&text[..n])?;
-    rt.print("\n")
-}
 
 pub fn changed(rt: &impl Print, changed: Changed) -> io::Result<Sheet> {
     println!(rt; "{}", changed.number)?;
@@ -53,13 +45,10 @@ pub fn tank_entering(rt: &impl Print, entering: TankEntering) -> io::Result<Shee
     Ok(entering.sheet)
 }
 
-// An accepted U has at most 17 stations.
+// An accepted U has at most as many stations as there are places.
 fn print_depths(rt: &impl Print, roundings: Roundings, stations: usize) -> io::Result<()> {
-    let depths = roundings.depths;
-    let mut i = 0;
-    while i < stations && i < 17 {
-        print_listed(rt, i, depths[i])?;
-        i += 1;
+    for (place, depth) in roundings.depths.iter().take(stations).enumerate() {
+        print_listed(rt, place, *depth)?;
     }
     Ok(())
 }
@@ -102,7 +91,7 @@ pub fn read(rt: &impl Print, reading: Reading) -> io::Result<Sheet> {
 pub fn spaces(rt: &impl Print, sheet: Sheet) -> io::Result<Sheet> {
     print!(rt;
         "0 {} {} {} {}",
-        sheet.is_open() as u8,
+        u8::from(sheet.is_open()),
         sheet.tonnage_length().0,
         sheet.standing_count(),
         sheet.vessel()
@@ -113,14 +102,9 @@ pub fn spaces(rt: &impl Print, sheet: Sheet) -> io::Result<Sheet> {
 }
 
 // Each standing space in order of entry.
-#[tactic(auto, using(sheet::proofs::Laws::Sheet::standing_count_le))]
 fn print_spaces(rt: &impl Print, sheet: Sheet) -> io::Result<()> {
-    let count = sheet.standing_count();
-    let spaces = sheet.places();
-    let mut place = 0;
-    while place < count {
-        print_space(rt, spaces[place])?;
-        place += 1;
+    for space in sheet.standing().spaces {
+        print_space(rt, *space)?;
     }
     Ok(())
 }
@@ -152,71 +136,30 @@ pub fn zones(
     if laid_out.sections == 0 {
         rt.print("-")?;
     }
-    print_stations(
-        rt,
-        tonnage_length,
-        under_deck,
-        length,
-        fore,
-        laid_out.sections,
-    )?;
+    for place in 0..laid_out.sections {
+        let station = tanks::section_station(tonnage_length, under_deck, length, fore, place);
+        print_listed(rt, place, station)?;
+    }
     rt.print("\n")
 }
 
-fn print_stations(
-    rt: &impl Print,
-    tonnage_length: Hundredths,
-    under_deck: Hundredths,
-    length: Hundredths,
-    fore: Hundredths,
-    sections: usize,
-) -> io::Result<()> {
-    let mut i = 0;
-    while i < sections {
-        let station = tanks::section_station(tonnage_length, under_deck, length, fore, i);
-        print_listed(rt, i, station)?;
-        i += 1;
-    }
-    Ok(())
-}
-
-// A number of a list, by its place.
+// A number of a list, by its place: a comma stands before each but the first.
 fn print_listed(rt: &impl Print, place: usize, x: impl Display + Drop) -> io::Result<()> {
-    print_comma(rt, place)?;
-    rt.print(x)
-}
-
-// What stands before a number of a list, by its place.
-fn print_comma(rt: &impl Print, place: usize) -> io::Result<()> {
     if 0 < place {
-        return rt.print(",");
+        rt.print(",")?;
     }
-    Ok(())
+    rt.print(x)
 }
 
 // Bytes as hex digits, some thousands at a time; `-` where there are none.
 fn print_bytes(rt: &impl Print, bytes: &[u8]) -> io::Result<()> {
-    if bytes.len() == 0 {
+    if bytes.is_empty() {
         return rt.print("-");
     }
-    let mut at = 0;
-    while at < bytes.len() {
-        let end = part_end(at, bytes.len());
-        print_hex(rt, &bytes[at..end])?;
-        at = end;
+    for part in bytes.chunks(BYTES_AT_A_TIME) {
+        print_hex(rt, part)?;
     }
     Ok(())
-}
-
-// Where the part of so many bytes that begins at a place ends.
-fn part_end(at: usize, all: usize) -> usize
-    requires { at < all }
-    ensures { (at < result) × (result ≤ all) × (result ≤ at + 2048) }
-{
-    if BYTES_AT_A_TIME < all - at {
-        return at + BYTES_AT_A_TIME;
-    }
-    all
 }
 
 // So few bytes that the digits of all of them fit.

@@ -1,17 +1,10 @@
 -- One field more of a row, written, read and judged.
-use Prim.Native.Nat.{ℕ, zero, suc, ◌+◌, ◌<◌, ◌≤◌, zero-le}
-use mathlib.Core.Path.{◌≡◌, refl, ap, ◌∙◌}
-use mathlib.Core.Bool.{true, ◌&&◌}
-use mathlib.Core.List.{List, [], ◌∷◌, ◌++◌}
-use native.Mathlib.Numerals.{add-one}
-use native.Mathlib.Omega.{arith}
-use borrow.Author.Tests.{leb-true}
-use lib.Dec.{leb, lit≤}
-use lib.ListN.{length, take, drop, get_or, set, length-append}
-use lib.Seq.{sets, drop-cons, drop-drop, take-suc-set, append_snoc}
+use Rattle.std.proofs.Common.{ℕ, zero, suc, ◌+◌, ◌<◌, ◌≤◌, zero-le, ◌≡◌, refl, ap, ◌∙◌, Bool, true, ◌&&◌, List, [], ◌∷◌, add-one, arith, leb-true, leb, lit≤, length, drop, get_or, length-append, drop-cons}
+use Rattle.std.specs.List.{list_all, zip}
+use lib.Seq.{sets}
 use Rattle.measure.proofs.Laws.Tests.{and_left, and_right}
-use Rattle.dayfile.specs.Numbers.{bytes_of, number_of}
-use Rattle.dayfile.specs.Fields.{encoded, decoded, size, in_ranges}
+use Rattle.dayfile.specs.Numbers.{bytes_of}
+use Rattle.dayfile.specs.Fields.{encoded, size, in_ranges}
 use Rattle.dayfile.specs.Handed.{Narrow}
 use Rattle.dayfile.proofs.Laws.Stores.{stored_behind}
 use Rattle.dayfile.proofs.Laws.Numbers.{length_bytes}
@@ -41,18 +34,17 @@ encoded_step l ws ns at i h k =
     (stored_behind l (bytes_of w n) (encoded (drop (suc i) ws) (drop (suc i) ns)) at
     ∙ ap (λ (k : ℕ). sets (sets l at (bytes_of w n)) (at + k) (encoded (drop (suc i) ws) (drop (suc i) ns))) (length_bytes w n))
 
-pub decoded_step : (bytes ws ns : List ℕ) (at i : ℕ) → i < length ws → i < length ns
-    → take (i + 1) (set ns i (number_of (take (get_or ws i 0) (drop at bytes)))) ++ decoded (drop (i + 1) ws) (drop (at + get_or ws i 0) bytes)
-    ≡ take i ns ++ decoded (drop i ws) (drop at bytes)
-decoded_step bytes ws ns at i h k =
-    let n = number_of (take (get_or ws i 0) (drop at bytes)) in
-    rw (add-one, take-suc-set ns i n k, drop-cons ws i 0 h, drop-drop (get_or ws i 0) at bytes)
-    (append_snoc (take i ns) n (decoded (drop (suc i) ws) (drop (at + get_or ws i 0) bytes)))
+-- a number with its range, which it is in
+abbrev pub within : ℕ × (ℕ × ℕ) → Bool
+within (n, (l, g)) = leb l n && leb n g
 
-pub range_step : (ls gs ns : List ℕ) (i : ℕ) → i < length ls → i < length gs → i < length ns
-    → in_ranges (drop i ls) (drop i gs) (drop i ns)
-    ≡ (leb (get_or ls i 0) (get_or ns i 0) && leb (get_or ns i 0) (get_or gs i 0) && in_ranges (drop (i + 1) ls) (drop (i + 1) gs) (drop (i + 1) ns))
-range_step ls gs ns i a b c = rw (add-one, drop-cons ls i 0 a, drop-cons gs i 0 b, drop-cons ns i 0 c)
+pub each_within : (ls gs ns : List ℕ) → length ns ≡ length ls → length ns ≡ length gs → list_all within (zip ns (zip ls gs)) ≡ in_ranges ls gs ns
+each_within [] gs [] p q = refl
+each_within [] gs (n ∷ ns) p q = refl
+each_within (l ∷ ls) [] [] p q = refl
+each_within (l ∷ ls) [] (n ∷ ns) p q = refl
+each_within (l ∷ ls) (g ∷ gs) [] p q = refl
+each_within (l ∷ ls) (g ∷ gs) (n ∷ ns) p q = ap (λ (t : Bool). leb l n && leb n g && t) (each_within ls gs ns (omega arith) (omega arith))
 
 -- ---- what numbers in their ranges tell
 

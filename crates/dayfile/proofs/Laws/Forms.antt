@@ -1,13 +1,7 @@
 -- The forms: what holds of each row holds of the form of any number.
-use Prim.Native.Nat.{ℕ, zero, suc, ◌-◌, ◌≤◌, zero-le}
-use mathlib.Core.Path.{◌≡◌, refl}
-use mathlib.Core.List.{List, [], ◌∷◌}
-use native.Mathlib.Nat.{le_refl}
-use native.Mathlib.Omega.{arith}
-use lib.Dec.{eqb}
-use lib.ListN.{get_or}
+use Rattle.std.proofs.Common.{ℕ, zero, suc, ◌-◌, ◌≤◌, ◌≡◌, refl, true, List, [], ◌∷◌, arith, eqb, get_or}
 use Rattle.spaces.proofs.Laws.Cases.{by_test}
-use Rattle.dayfile.specs.Forms.{form1, forms, form_of, greatest_in}
+use Rattle.dayfile.specs.Forms.{form1, forms, is_form, form_of, form_told}
 use Rattle.dayfile.specs.Fields.{widths}
 use Rattle.dayfile.specs.Record.{record_fields}
 use Rattle.dayfile.specs.Handed.{Narrow}
@@ -34,13 +28,17 @@ other_form (suc zero) other = refl
 other_form (suc (suc zero)) other = absurd (other refl)
 other_form (suc (suc (suc number))) other = let past : suc (suc (suc number)) - 1 ≡ suc (suc number) = omega arith in rw past
 
--- a field that is lacking holds less than it would
-pub greatest_at_most : (width greatest : ℕ) → greatest_in width greatest ≤ greatest
-greatest_at_most width greatest = by_test (eqb width 0) (λ t. rw t zero-le) (λ f. rw f (le_refl greatest))
-
 -- no field has more than eight bytes, and the vessel number at most four
 pub narrow_record : (number : ℕ) → Narrow (widths (record_fields (form_of number)))
 narrow_record = every_form (λ f. Narrow (widths (record_fields f))) (omega arith)
 
 pub narrow_vessel : (number : ℕ) → (form_of number).vessel ≤ 4
 narrow_vessel = every_form (λ f. f.vessel ≤ 4) (omega arith)
+
+-- what a byte tells is the number of a form
+pub told_is_form : (byte : ℕ) → (form_told byte ≡ 0 → ⊥) → is_form (form_told byte) ≡ true
+unfolding form_told
+told_is_form byte some =
+    by_test (eqb byte 0)
+    (λ t. rw t)
+    (λ f. by_test (eqb byte 2) (λ t. rw (f, t)) (λ g. absurd (some (rw (f, g)))))

@@ -1,18 +1,15 @@
 -- What a move answers, and what it leaves in the other buffer: as a write of the sheet that was read does.
-use Prim.Native.Nat.{ℕ}
-use mathlib.Core.Path.{◌≡◌, refl, sym, ap, ap₂, ◌∙◌}
-use mathlib.Core.Bool.{Bool, true, false, cond}
-use mathlib.Core.List.{List}
-use borrow.Author.Tests.{ne_eqb}
-use lib.Dec.{eqb}
-use lib.ListN.{length}
+use Rattle.std.proofs.Common.{ℕ, ◌≡◌, refl, sym, ap, ap₂, ◌∙◌, Bool, true, false, cond, List, ne_eqb, eqb-true, eqb, length}
+use Rattle.std.specs.Prelude.{Result}
+use Rattle.spaces.proofs.Laws.Cases.{by_test}
 use Rattle.dayfile.specs.Forms.{is_form, form_of}
 use Rattle.dayfile.specs.Trailer.{sheet_size}
-use Rattle.dayfile.specs.Writing.{sheet_bytes, write_number, written, placed, written_into}
+use Rattle.dayfile.specs.Writing.{sheet_bytes, write_number, placed, written_into}
 use Rattle.dayfile.specs.Reading.{read_of}
 use Rattle.dayfile.specs.Moving.{move_number, moved, moved_into}
 use Rattle.dayfile.specs.declared.reading.Reading.{Reading}
-use Rattle.dayfile.specs.declared.writing.Written.{Written}
+use Rattle.dayfile.specs.Handed.{refused_or, written_as, moved_as}
+use Rattle.dayfile.specs.declared.refusals.Refusal.{Refusal}
 use Rattle.dayfile.specs.declared.moving.Moved.{Moved}
 use Rattle.dayfile.proofs.Laws.Writing.{number_reported}
 use Rattle.dayfile.proofs.Laws.Reading.{reading_accepted, read_reports, position_with_17}
@@ -42,20 +39,27 @@ module _ (file : List ℕ) (form at : ℕ) (buffer : List ℕ) where
       (rw (e, known, other) (rw other (ap (λ (p : ℕ). record { number = (read_of file).number; bytes = 0; position = p }) (sym (position_with_17 file)))), rw (known, other, other))
 
   -- what was read, written
-  pub read_and_written : (r : Reading) (w : Written) (after : List ℕ) → r ≡ read_of file → is_form form ≡ true → r.number ≡ 0
-      → w ≡ written r.sheet r.justified form (length buffer) at → after ≡ written_into r.sheet r.justified form at buffer
-      → AnsweredMove (record { number = w.number; bytes = w.bytes; position = 0 }) after
-  unfolding moved moved_into written written_into
+  pub read_and_written : (r : Reading) (w : Result ℕ Refusal) (after : List ℕ) → r ≡ read_of file → is_form form ≡ true → r.number ≡ 0
+      → w ≡ written_as r.sheet r.justified form (length buffer) at → after ≡ written_into r.sheet r.justified form at buffer
+      → AnsweredMove (moved_as w) after
+  unfolding moved moved_into written_as written_into
   read_and_written r w after e known zero e₁ e₂ =
       let read : (read_of file).number ≡ 0 = sym (ap (λ (x : Reading). x.number) e) ∙ zero in
       let number = ap (λ (x : Reading). write_number x.sheet x.justified form (length buffer) at) e ∙ as_written file form (length buffer) at read known in
       let position : (read_of file).position ≡ 0 = ap (λ (x : Reading). x.position) (reading_accepted file read).reading_is in (
-        ap (λ (x : Written). record { number = x.number; bytes = x.bytes; position = 0 }) e₁
-            ∙ ap₂ (λ (n : ℕ) (x : Reading). record { number = n; bytes = cond (eqb n 0) (sheet_size (form_of form) x.sheet.count) 0; position = 0 }) number e
+        ap moved_as e₁
+            ∙ ap₂ (λ (n : ℕ) (x : Reading). moved_as (refused_or n (sheet_size (form_of form) x.sheet.count))) number e
+            ∙ moved_by _ _
             ∙ rw position (same_either (eqb (move_number file form (length buffer) at) 17)),
         e₂ ∙ ap₂ (λ (n : ℕ) (x : Reading). cond (eqb n 0) (placed buffer at (sheet_bytes x.sheet x.justified form)) buffer) number e,
       )
     where
+      moved_by : (n bytes : ℕ) → moved_as (refused_or n bytes) ≡ record { number = n; bytes = cond (eqb n 0) bytes 0; position = 0 }
+      moved_by n bytes =
+          by_test (eqb n 0)
+          (λ t. let zero : n ≡ 0 = eqb-true n 0 t in rw zero)
+          (λ f. rw f)
+
       same_either : (t : Bool) → let n = move_number file form (length buffer) at in
           ◌≡◌ {A = Moved}
           (record { number = n; bytes = cond (eqb n 0) (sheet_size (form_of form) (read_of file).sheet.count) 0; position = 0 })

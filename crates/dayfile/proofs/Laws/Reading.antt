@@ -1,12 +1,7 @@
 -- What reading answers, test by test.
-use Prim.Native.Nat.{ℕ, ◌+◌, ◌-◌, ◌<◌, ◌≤◌}
-use mathlib.Core.Path.{◌≡◌, refl, sym, ap, ◌∙◌}
-use mathlib.Core.Bool.{Bool, true, false, cond, not, ◌||◌}
-use mathlib.Core.List.{List, [], ◌∷◌, ◌++◌}
-use native.Mathlib.Omega.{arith}
-use borrow.Author.Tests.{not-false, lt-ltb, le-ltb, ltb-false, eq-eqb, ne_eqb, eqb-true, eqb-false}
-use lib.Dec.{eqb, ltb, lit<}
-use lib.ListN.{length, take, drop, get_or}
+use Rattle.std.proofs.Common.{ℕ, ◌+◌, ◌-◌, ◌<◌, ◌≤◌, ◌≡◌, refl, sym, ap, ◌∙◌, Bool, true, false, cond, not, ◌||◌, List, [], ◌∷◌, ◌++◌, arith, lt-ltb, le-ltb, ltb-false, eq-eqb, ne_eqb, eqb-true, eqb, ltb, lit<, length, drop, get_or}
+use borrow.Author.Tests.{not-false, eqb-false}
+use Rattle.std.specs.Prelude.{Result, Ok, Err}
 use Rattle.measure.specs.declared.units.Hundredths.{Hundredths}
 use Rattle.measure.specs.Kinds.{kind_of}
 use Rattle.measure.specs.Ranges.{includes, tonnage_lengths}
@@ -29,10 +24,12 @@ use Rattle.dayfile.specs.Fields.{fitting}
 use Rattle.dayfile.specs.Record.{record_fields, records_in, space_of, spaces_of}
 use Rattle.dayfile.specs.Trailer.{trailer_size, sheet_size, trailer_right}
 use Rattle.dayfile.specs.Reading.{last_numbers, last_trailer, last_form, start_of, last_records, last_vessel, no_sheet, faulty, first_faulty, fault_in, sheet_in, trailer_tests, read_number, refused_reading, accepted_reading, read_of, ReadingAccepted}
-use Rattle.dayfile.specs.Handed.{read_as, each_read_as, judged_reading}
+use Rattle.dayfile.specs.Handed.{refusal, read_as, each_read_as, read_by, judged_reading, last_read, accepted_from, reading_from}
 use Rattle.dayfile.specs.declared.forms.Form.{Form}
 use Rattle.dayfile.specs.declared.trailer.Trailer.{Trailer}
+use Rattle.dayfile.specs.declared.refusals.Refusal.{Refusal}
 use Rattle.dayfile.specs.declared.reading.Reading.{Reading}
+use Rattle.dayfile.specs.declared.reading.LastSheet.{LastSheet}
 use Rattle.dayfile.proofs.Laws.Trailer.{distance_is, within_trailer, tonnage_length_fits}
 
 -- ---- 16
@@ -50,6 +47,14 @@ module _ (file : List ℕ) where
       → no_sheet file ≡ ltb (length file) (get_or (last_numbers file) 0 0)
   unfolding no_sheet
   by_distance h e = rw (le-ltb (length file) trailer_size h, e)
+
+  pub too_far : length file < get_or (last_numbers file) 0 0 → no_sheet file ≡ true
+  unfolding no_sheet
+  too_far h = rw (lt-ltb _ _ h) (by_test (ltb (length file) trailer_size || not (trailer_right (last_numbers file))) (λ t. rw t) (λ f. rw f))
+
+  pub by_trailer : trailer_size ≤ length file → get_or (last_numbers file) 0 0 ≤ length file → trailer_right (last_numbers file) ≡ not (no_sheet file)
+  unfolding no_sheet
+  by_trailer h k = rw (le-ltb (length file) trailer_size h, le-ltb _ _ k) (by_test (trailer_right (last_numbers file)) (λ t. rw t) (λ f. rw f))
 
 -- a file that ends in a sheet
 pub record Framed (file : List ℕ) : Type 0 where
@@ -161,20 +166,20 @@ resumes f L vessel all fits = by (eqb (first_refused L [] (each_read_as f all)).
         let faulty' : first_faulty f L [] all ≡ 0 → ⊥ = λ none. eqb-false _ 0 e (j.none_refused none) in
         record { position_is = rw (fits, e) j.position_is; sheet_is = λ none. absurd (faulty' none) }
 
--- of the last sheet of a file, as the code has its trailer, its start and its row
+-- of the last sheet of a file, as the code has its trailer, its start and its spaces
 module _ (file : List ℕ) (off : no_sheet file ≡ false) where
   pub count_fits : (last_trailer file).count ≤ 200
   count_fits = within_trailer (last_numbers file) 1 (lit< tt) (framed file off).right
 
-  pub resumed_last : (t : Trailer) (f : Form) (start vessel : ℕ) (row : List Space) (r : Resumed) → t ≡ last_trailer file → f ≡ last_form file
+  pub resumed_last : (t : Trailer) (f : Form) (start vessel : ℕ) (xs : List Space) (r : Resumed) → t ≡ last_trailer file → f ≡ last_form file
       → start ≡ start_of file → vessel ≡ last_vessel file
-      → take t.count row ≡ each_read_as f (records_in f t.count (drop start file))
-      → r ≡ resumed t.tonnage_length vessel (take t.count row)
+      → xs ≡ each_read_as f (records_in f t.count (drop start file))
+      → r ≡ resumed t.tonnage_length vessel xs
       → (r.position ≡ fault_in file) × (fault_in file ≡ 0 → r.sheet ≡ sheet_in file)
   unfolding fault_in sheet_in
-  resumed_last t f start vessel row r e₁ e₂ e₃ e₄ read e₅ =
+  resumed_last t f start vessel xs r e₁ e₂ e₃ e₄ read e₅ =
       let L = (last_trailer file).tonnage_length in
-      let all : take t.count row ≡ each_read_as (last_form file) (last_records file) =
+      let all : xs ≡ each_read_as (last_form file) (last_records file) =
       read ∙ rw (e₁, e₂, e₃) in
       let same : r ≡ resumed L (last_vessel file) (each_read_as (last_form file) (last_records file)) = e₅ ∙ rw (all, e₁, e₄) in
       let fits = tonnage_length_fits (drop (length file - trailer_size) file) (framed file off).right in
@@ -188,45 +193,64 @@ none_either true = refl
 none_either false = refl
 
 module _ (file : List ℕ) where
-  pub read_16 : no_sheet file ≡ true → refused_reading 16 0 ≡ read_of file
-  unfolding read_number read_of
-  read_16 e = rw e
+  pub refuse_16 : no_sheet file ≡ true → Err (refusal 16) ≡ last_read file
+  unfolding read_number last_read
+  refuse_16 e = rw e
 
-  pub read_17 : no_sheet file ≡ false → (fault_in file ≡ 0 → ⊥) → refused_reading 17 (fault_in file) ≡ read_of file
-  unfolding read_number read_of
-  read_17 e h = rw (e, ne_eqb (fault_in file) 0 h)
+  pub refuse_17 : no_sheet file ≡ false → (fault_in file ≡ 0 → ⊥) → Err (record { number = 17; position = fault_in file }) ≡ last_read file
+  unfolding read_number last_read
+  refuse_17 e h = rw (e, ne_eqb (fault_in file) 0 h)
 
-  judged_last : no_sheet file ≡ false → fault_in file ≡ 0 → judged_reading (sheet_in file) (last_trailer file) (start_of file) ≡ read_of file
-  unfolding read_number read_of judged_reading
+  judged_last : no_sheet file ≡ false → fault_in file ≡ 0 → judged_reading (sheet_in file) (last_trailer file) (start_of file) ≡ last_read file
+  unfolding read_number last_read judged_reading
   judged_last e h =
       let n = first_of (trailer_tests (sheet_in file) (last_trailer file)) in
-      rw (e, h)
-      (ap
-      (λ (p : ℕ). cond (eqb n 0) (accepted_reading (sheet_in file) (last_trailer file).justified (start_of file) (last_trailer file).form) (refused_reading n p))
-      (none_either (eqb n 17)))
+      let wanted : ℕ → Result LastSheet Refusal =
+      λ p. cond (eqb n 0) (Ok (read_by (sheet_in file) (last_trailer file) (start_of file))) (Err (record { number = n; position = p })) in
+      rw (e, h) (ap wanted (none_either (eqb n 17)))
 
   pub read_judged : (s : Sheet) (t : Trailer) (start : ℕ) → s ≡ sheet_in file → t ≡ last_trailer file → start ≡ start_of file
-      → no_sheet file ≡ false → fault_in file ≡ 0 → judged_reading s t start ≡ read_of file
+      → no_sheet file ≡ false → fault_in file ≡ 0 → judged_reading s t start ≡ last_read file
   read_judged s t start e₁ e₂ e₃ e h = rw (e₁, e₂, e₃) (judged_last e h)
+
+  -- the record made of it is what reading answers
+  pub reading_is : reading_from (last_read file) ≡ read_of file
+  unfolding read_of last_read
+  reading_is = by_test (eqb (read_number file) 0) (λ t. rw t) (λ f. rw f)
+
+  pub read_17 : no_sheet file ≡ false → (fault_in file ≡ 0 → ⊥) → refused_reading 17 (fault_in file) ≡ read_of file
+  read_17 e h = ap reading_from (refuse_17 e h) ∙ reading_is
+
+  pub accepted_is : (r : LastSheet) → last_read file ≡ Ok r → accepted_from r ≡ read_of file
+  accepted_is r e = sym (ap reading_from e) ∙ reading_is
+
+  pub refusal_is : (r : Refusal) → last_read file ≡ Err r → (refused_reading r.number r.position ≡ read_of file) × (r.number ≡ 0 → ⊥)
+  unfolding last_read
+  refusal_is r e =
+      by_test (eqb (read_number file) 0)
+      (λ zero. let s : ◌≡◌ {A = Result LastSheet Refusal} (Ok _) (Err r) = rw zero at e in (cc, cc))
+      (λ some. let s : ◌≡◌ {A = Result LastSheet Refusal} (Err _) (Err r) = rw some at e in
+      let same : r.number ≡ read_number file = cc in
+      (sym (ap reading_from e) ∙ reading_is, λ z. eqb-false _ 0 some (sym same ∙ z)))
 
 -- ---- 13, 14 and 18
 
 module _ (s : Sheet) (t : Trailer) (start : ℕ) where
-  pub unreported : (n : ℕ) → (reported s t.justified).number ≡ n → (n ≡ 0 → ⊥) → refused_reading n 0 ≡ judged_reading s t start
+  pub unreported : (n : ℕ) → (reported s t.justified).number ≡ n → (n ≡ 0 → ⊥) → Err (refusal n) ≡ judged_reading s t start
   unfolding judged_reading
   unreported n e h = rw (e, ne_eqb n 0 h, ne_eqb n 0 h)
 
-  pub other_gross : (reported s t.justified).number ≡ 0 → (gross (standing s) ≡ t.gross → ⊥) → refused_reading 18 0 ≡ judged_reading s t start
+  pub other_gross : (reported s t.justified).number ≡ 0 → (gross (standing s) ≡ t.gross → ⊥) → Err (refusal 18) ≡ judged_reading s t start
   unfolding judged_reading
   other_gross e h = rw (e, ne_eqb (gross (standing s)) t.gross h)
 
   pub other_net : (reported s t.justified).number ≡ 0 → gross (standing s) ≡ t.gross → (net (standing s) ≡ t.net → ⊥)
-      → refused_reading 18 0 ≡ judged_reading s t start
+      → Err (refusal 18) ≡ judged_reading s t start
   unfolding judged_reading
   other_net e g h = rw (e, eq-eqb (gross (standing s)) t.gross g, ne_eqb (net (standing s)) t.net h)
 
   pub same_figures : (reported s t.justified).number ≡ 0 → gross (standing s) ≡ t.gross → net (standing s) ≡ t.net
-      → accepted_reading s t.justified start t.form ≡ judged_reading s t start
+      → Ok (read_by s t start) ≡ judged_reading s t start
   unfolding judged_reading
   same_figures e g n = rw (e, eq-eqb (gross (standing s)) t.gross g, eq-eqb (net (standing s)) t.net n)
 

@@ -1,13 +1,6 @@
 -- Records in any form: their numbers in range, one more written, one more read.
-use Prim.Native.Nat.{ℕ, suc, ◌+◌, ◌*◌, ◌-◌, ◌<◌, ◌≤◌}
-use mathlib.Core.Path.{◌≡◌, refl, sym, ap, ◌∙◌}
-use mathlib.Core.Bool.{true}
-use mathlib.Core.List.{List, [], ◌∷◌, ◌++◌}
-use native.Mathlib.Nat.{mul-zero, mul-suc, mul-le-mul_left}
-use native.Mathlib.Numerals.{add-one}
-use native.Mathlib.Omega.{arith}
-use lib.ListN.{length, take, drop, get_or, set, length-append}
-use lib.Seq.{sets, drop-cons, drop-drop, take-suc-set, append_snoc}
+use Rattle.std.proofs.Common.{ℕ, suc, ◌+◌, ◌*◌, ◌-◌, ◌<◌, ◌≤◌, ◌≡◌, refl, sym, ap, ◌∙◌, true, List, [], ◌∷◌, ◌++◌, mul-zero, mul-suc, mul-le-mul_left, add-one, arith, length, take, drop, get_or, set, length-append, drop-cons, drop-drop, take-suc-set}
+use lib.Seq.{sets, append_snoc}
 use Rattle.spaces.specs.declared.space.Space.{Space}
 use Rattle.dayfile.specs.Fields.{each, widths, fitting}
 use Rattle.dayfile.specs.Record.{record_fields, record_size, numbers_of, record_bytes, records, record_numbers, records_in}

@@ -1,17 +1,29 @@
 -- Runs of stores into a buffer, and into a part of it that is lent on.
-use Prim.Native.Nat.{ℕ, suc, ◌+◌, ◌-◌, ◌≤◌}
-use mathlib.Core.Path.{◌≡◌, sym, ap, ◌∙◌}
-use mathlib.Core.List.{List, [], ◌∷◌, ◌++◌, append-nil}
-use native.Mathlib.Nat.{add-zero}
-use native.Mathlib.Omega.{arith}
-use lib.ListN.{length, take, drop, set, length-set, length-drop, drop_of_length-le, take-append-drop}
-use lib.Seq.{sets, length-sets, take-set-le, drop-set-add, take_all}
+use Rattle.std.proofs.Common.{ℕ, suc, ◌+◌, ◌-◌, ◌≤◌, ◌≡◌, refl, sym, ap, ap₂, ◌∙◌, List, [], ◌∷◌, ◌++◌, append-nil, append_assoc, add-zero, zero-add, arith, length, take, drop, set, length-set, length-drop, drop_of_length-le, take-append-drop, take_all}
+use borrow.Rule.Slice.PartMut.{put_mid}
+use Rattle.std.proofs.lemmas.Slice.{put_mid-paste}
+use Rattle.std.proofs.lemmas.List.Edits.{paste_all}
+use lib.Seq.{sets, sets-eq, length-sets, take-set-le, drop-set-add}
 
 -- a run and then a second one behind it are one run of both
 pub stored_behind : (l a b : List ℕ) (i : ℕ) → sets l i (a ++ b) ≡ sets (sets l i a) (i + length a) b
 stored_behind l [] b i = rw add-zero
 stored_behind l (x ∷ a) b i =
     stored_behind (set l i x) a b (suc i) ∙ ap (λ (k : ℕ). sets (sets (set l i x) (suc i) a) k b) (omega arith)
+
+-- a part that now holds a run, put back in its place
+pub stored_part : (l part vs : List ℕ) (at size : ℕ) → part ≡ vs → size ≡ length vs → at + length vs ≤ length l → put_mid at size l part ≡ sets l at vs
+stored_part l part vs at size is sized within =
+    put_mid-paste at size l part vs (length vs) is (sym sized) refl
+    ∙ paste_all l at vs (length vs) refl
+    ∙ sym (append_assoc (take at l) vs (drop (at + length vs) l))
+    ∙ sym (sets-eq vs l at within)
+
+-- and a part at the front
+pub stored_in_front : (l part vs : List ℕ) (size : ℕ) → part ≡ vs → size ≡ length vs → length vs ≤ length l → part ++ drop size l ≡ sets l 0 vs
+stored_in_front l part vs size is sized within =
+    ap₂ (λ (p : List ℕ) (n : ℕ). p ++ drop n l) is (sized ∙ sym (zero-add (length vs)))
+    ∙ sym (sets-eq vs l 0 (omega (arith, within)))
 
 -- a run in the part from a place on, put back behind what is before it
 in_part : (vs l : List ℕ) (at i : ℕ) → at ≤ length l → take at l ++ sets (drop at l) i vs ≡ sets l (at + i) vs

@@ -1,11 +1,5 @@
 -- The trailer's numbers in range.
-use Prim.Native.Nat.{ℕ, ◌<◌, ◌≤◌}
-use mathlib.Core.Path.{◌≡◌}
-use mathlib.Core.Bool.{true, ◌&&◌}
-use mathlib.Core.List.{List}
-use borrow.Author.Tests.{eqb-true, le-leb}
-use lib.Dec.{lit<}
-use lib.ListN.{get_or}
+use Rattle.std.proofs.Common.{ℕ, ◌<◌, ◌≤◌, ◌≡◌, true, ◌&&◌, List, eqb-true, le-leb, lit<, get_or}
 use Rattle.measure.specs.Ranges.{includes, tonnage_lengths}
 use Rattle.measure.proofs.Laws.Tests.{and_left, and_right}
 use Rattle.dayfile.specs.Fields.{each, fitting}

@@ -1,17 +1,11 @@
 -- What writing answers, and what it leaves in the buffer.
-use Prim.Native.Nat.{ℕ, ◌+◌, ◌*◌, ◌-◌, ◌<◌, ◌≤◌}
-use mathlib.Core.Path.{◌≡◌, refl, sym, ap, ◌∙◌}
-use mathlib.Core.Bool.{Bool, true, false, cond, not, ◌||◌}
-use mathlib.Core.List.{List, [], ◌∷◌, ◌++◌}
-use native.Mathlib.Numerals.{add-one}
-use native.Mathlib.Omega.{arith}
-use borrow.Author.Tests.{not-false, ne_eqb}
-use lib.Dec.{eqb, ltb}
-use lib.ListN.{length, take, drop, get_or, length-append}
-use lib.Seq.{sets, sets-eq, drop-cons, length-take-le}
+use Rattle.std.proofs.Common.{ℕ, ◌+◌, ◌*◌, ◌-◌, ◌≤◌, ◌≡◌, refl, sym, ap, ◌∙◌, Bool, true, false, cond, not, ◌||◌, List, [], ◌∷◌, ◌++◌, arith, ne_eqb, eqb-true, eqb, ltb, length, take, drop, length-append, length-take-le}
+use borrow.Author.Tests.{not-false}
+use Rattle.std.specs.Prelude.{Result, Ok, Err}
+use lib.Seq.{sets, sets-eq}
+use Rattle.std.specs.List.{list_any}
 use Rattle.measure.specs.declared.units.Hundredths.{Hundredths}
 use Rattle.standard.specs.Gross.{gross, net, deductions_pass}
-use Rattle.spaces.specs.Space.{empty_space}
 use Rattle.spaces.specs.declared.space.Space.{Space}
 use Rattle.sheet.specs.Sheet.{standing, usable}
 use Rattle.sheet.specs.Calls.{lengths_short, ballast_unjustified, tests_to14, deductions_test, reported}
@@ -25,20 +19,19 @@ use Rattle.dayfile.specs.Forms.{is_form, form_of, lost}
 use Rattle.dayfile.specs.Record.{record_size, records}
 use Rattle.dayfile.specs.Trailer.{trailer_fields, trailer_size, end_size, vessel_bytes, trailer_bytes, numbers_of_trailer, sheet_size}
 use Rattle.dayfile.specs.Writing.{trailer_for, sheet_bytes, loses_deck, loses_number, too_little_room, lost_or_no_room, write_number, written, written_into}
-use Rattle.dayfile.specs.Handed.{form_refusal, stored, stored_into, handed_back}
+use Rattle.dayfile.specs.Handed.{refusal, form_refusal, stored, stored_into, written_as, handed_back}
 use Rattle.dayfile.specs.declared.forms.Form.{Form}
 use Rattle.dayfile.specs.declared.trailer.Trailer.{Trailer}
-use Rattle.dayfile.specs.declared.writing.Stored.{Stored}
-use Rattle.dayfile.specs.declared.writing.Written.{Written}
+use Rattle.dayfile.specs.declared.refusals.Refusal.{Refusal}
 use Rattle.dayfile.proofs.Laws.Stores.{stored_in_two_parts}
 use Rattle.dayfile.proofs.Laws.Numbers.{length_bytes}
 use Rattle.dayfile.proofs.Laws.Fields.{length_encoded}
 use Rattle.dayfile.proofs.Laws.Record.{length_records}
 
--- the deck of one space more is looked at
-pub deck_looked_at : (f : Form) (xs : List Space) (i : ℕ) → i < length xs
-    → loses_deck f (drop i xs) ≡ (lost f.deck (get_or xs i empty_space).deck || loses_deck f (drop (i + 1) xs))
-deck_looked_at f xs i h = rw (add-one, drop-cons xs i empty_space h)
+-- 20 of the spaces: a deck of any of them would be lost
+pub any_deck : (f : Form) (xs : List Space) → list_any (λ x. lost f.deck x.deck) xs ≡ loses_deck f xs
+any_deck f [] = refl
+any_deck f (x ∷ xs) = ap (λ (t : Bool). lost f.deck x.deck || t) (any_deck f xs)
 
 pub length_trailer : (t : Trailer) → length (trailer_bytes t) ≡ trailer_size
 length_trailer t = length_encoded (widths trailer_fields) (numbers_of_trailer t) refl
@@ -72,13 +65,13 @@ module _ (on marked short unjustified : Bool) where
   tests = (not on, 1) ∷ (marked, 2) ∷ (short, 13) ∷ (unjustified, 14) ∷ []
 
   -- and what is made of them where deductions pass gross, or don't, in a form that there is, or isn't
-  abbrev refusal : (pass known : Bool) → ℕ
-  refusal pass known = form_refusal (first_of (tests ++ ((pass, 21) ∷ []))) known
+  abbrev refusal_of : (pass known : Bool) → ℕ
+  refusal_of pass known = form_refusal (first_of (tests ++ ((pass, 21) ∷ []))) known
 
 -- a write's number by that of its report and its form, whatever comes after 14
 by_report : (on marked short unjustified pass known : Bool) (last : List (Bool × ℕ))
     → first_of (tests on (marked || not known) short unjustified ++ last)
-    ≡ (let n = refusal on marked short unjustified pass known in cond (eqb n 0) (first_of last) n)
+    ≡ (let n = refusal_of on marked short unjustified pass known in cond (eqb n 0) (first_of last) n)
 by_report false _ _ _ _ _ last = refl
 by_report true true _ _ _ false last = refl
 by_report true false true _ _ false last = refl
@@ -134,27 +127,36 @@ module _ (s : Sheet) (justified form size at : ℕ) where
       number_past_14 (given_past_14 s justified z) known
       ∙ ap (λ (pass : Bool). first_of (lost_or_no_room form s size at ++ ((pass, 21) ∷ []))) (given s justified _ refl z).none_pass
 
+-- what is answered, with the sheet handed back
+pub handed_with : (s : Sheet) (justified form size at : ℕ) → handed_back (written_as s justified form size at) s ≡ written s justified form size at
+unfolding written_as written
+handed_with s justified form size at =
+    let n = write_number s justified form size at in
+    by_test (eqb n 0)
+    (λ t. let zero : n ≡ 0 = eqb-true n 0 t in rw zero)
+    (λ f. rw f)
+
 module _ (s : Sheet) (justified form at : ℕ) (buffer : List ℕ) where
   -- the answer and the buffer after it
-  abbrev pub Answered : Written → List ℕ → Type 0
-  Answered r after = (r ≡ written s justified form (length buffer) at) × (after ≡ written_into s justified form at buffer)
+  abbrev pub Answered : Result ℕ Refusal → List ℕ → Type 0
+  Answered r after = (r ≡ written_as s justified form (length buffer) at) × (after ≡ written_into s justified form at buffer)
 
-  pub refused_with : (n : ℕ) → n ≡ form_refusal (reported s justified).number (is_form form) → (n ≡ 0 → ⊥) → Answered (record { number = n; bytes = 0; sheet = s }) buffer
-  unfolding written written_into
+  pub refused_with : (n : ℕ) → n ≡ form_refusal (reported s justified).number (is_form form) → (n ≡ 0 → ⊥) → Answered (Err (refusal n)) buffer
+  unfolding written_as written_into
   refused_with n e h =
       let is : write_number s justified form (length buffer) at ≡ n = number_is s justified form (length buffer) at ∙ rw (← e, ne_eqb n 0 h) in
       (rw (is, ne_eqb n 0 h), rw (is, ne_eqb n 0 h))
 
   -- what is stored of the sheet is what is written of it
-  module _ (pass : Bool) (n g m vessel : ℕ) (l : Hundredths) (row : List Space) (r : Stored) (after : List ℕ) where
+  module _ (pass : Bool) (n g m vessel : ℕ) (l : Hundredths) (xs : List Space) (r : Result ℕ Refusal) (after : List ℕ) where
     abbrev t : Trailer
     t = record { count = n; justified = justified; form = form; tonnage_length = l; gross = g; net = m }
 
     pub stored_is_written : first_of (tests_to14 s justified (ltb 1 justified)) ≡ 0 → is_form form ≡ true → pass ≡ deductions_pass (standing s)
-        → n ≡ s.count → l ≡ s.length → (pass ≡ false → (g ≡ gross (standing s)) × (m ≡ net (standing s))) → vessel ≡ s.vessel → row ≡ s.spaces
-        → r ≡ stored t pass vessel (take n row) (length buffer) at → after ≡ stored_into t pass vessel (take n row) at buffer
-        → Answered (handed_back r s) after
-    unfolding written written_into sheet_bytes loses_number
+        → n ≡ s.count → l ≡ s.length → (pass ≡ false → (g ≡ gross (standing s)) × (m ≡ net (standing s))) → vessel ≡ s.vessel → xs ≡ standing s
+        → r ≡ stored t pass vessel xs (length buffer) at → after ≡ stored_into t pass vessel xs at buffer
+        → Answered r after
+    unfolding written_as written_into sheet_bytes loses_number
     stored_is_written z known e₁ e₂ e₃ figures e₄ e₅ e₆ e₇ =
         let is = number_past_14 s justified form (length buffer) at z known in
         by_test pass
@@ -170,19 +172,19 @@ module _ (s : Sheet) (justified form at : ℕ) (buffer : List ℕ) where
 -- ---- 20, 15, 21 and the bytes
 
 module _ (t : Trailer) (pass : Bool) (vessel : ℕ) (xs : List Space) (at : ℕ) (buffer : List ℕ) where
-  abbrev pub AnsweredStore : Stored → List ℕ → Type 0
+  abbrev pub AnsweredStore : Result ℕ Refusal → List ℕ → Type 0
   AnsweredStore r after = (r ≡ stored t pass vessel xs (length buffer) at) × (after ≡ stored_into t pass vessel xs at buffer)
 
-  pub loses : (lost (form_of t.form).vessel vessel || loses_deck (form_of t.form) xs) ≡ true → AnsweredStore (record { number = 20; bytes = 0 }) buffer
-  loses l = (rw l, rw l)
+  pub loses : (r : Refusal) → r ≡ refusal 20 → (lost (form_of t.form).vessel vessel || loses_deck (form_of t.form) xs) ≡ true → AnsweredStore (Err r) buffer
+  loses r is l = (rw (is, l), rw l)
 
-  pub no_room : (lost (form_of t.form).vessel vessel || loses_deck (form_of t.form) xs) ≡ false
-      → too_little_room (form_of t.form) t.count (length buffer) at ≡ true → AnsweredStore (record { number = 15; bytes = 0 }) buffer
-  no_room l r = (rw (l, r), rw (l, r))
+  pub no_room : (r : Refusal) → r ≡ refusal 15 → (lost (form_of t.form).vessel vessel || loses_deck (form_of t.form) xs) ≡ false
+      → too_little_room (form_of t.form) t.count (length buffer) at ≡ true → AnsweredStore (Err r) buffer
+  no_room r is l s = (rw (is, l, s), rw (l, s))
 
-  pub over_gross : (lost (form_of t.form).vessel vessel || loses_deck (form_of t.form) xs) ≡ false
-      → too_little_room (form_of t.form) t.count (length buffer) at ≡ false → pass ≡ true → AnsweredStore (record { number = 21; bytes = 0 }) buffer
-  over_gross l r p = (rw (l, r, p), rw (l, r, p))
+  pub over_gross : (r : Refusal) → r ≡ refusal 21 → (lost (form_of t.form).vessel vessel || loses_deck (form_of t.form) xs) ≡ false
+      → too_little_room (form_of t.form) t.count (length buffer) at ≡ false → pass ≡ true → AnsweredStore (Err r) buffer
+  over_gross r is l s p = (rw (is, l, s, p), rw (l, s, p))
 
   -- as the code makes it: the records stored in the part from the named place on, and what stands behind them in the part behind
   pub stored_whole : (size end : ℕ) (b m₁ m₂ : List ℕ)
@@ -192,7 +194,7 @@ module _ (t : Trailer) (pass : Bool) (vessel : ℕ) (xs : List Space) (at : ℕ)
       → b ≡ take at buffer ++ (m₁ ++ drop (length buffer - at) (drop at buffer))
       → m₁ ≡ sets (take (length buffer - at) (drop at buffer)) 0 (records (form_of t.form) xs)
       → m₂ ≡ sets (take (length b - end) (drop end b)) 0 (vessel_bytes (form_of t.form) vessel ++ trailer_bytes t)
-      → AnsweredStore (record { number = 0; bytes = size }) (take end b ++ (m₂ ++ drop (length b - end) (drop end b)))
+      → AnsweredStore (Ok size) (take end b ++ (m₂ ++ drop (length b - end) (drop end b)))
   stored_whole size end b m₁ m₂ l r within many size_is end_is from_place enough whole first second =
       let f = form_of t.form in
       let behind = vessel_bytes f vessel ++ trailer_bytes t in

@@ -1,5 +1,5 @@
 -- `fummidrake_breadths_at_station` meets its contract: the code's kind is the definition's.
-use mathlib.Core.Path.{ap, ◌∙◌}
+use Rattle.std.proofs.Common.{ap, ◌∙◌}
 use Rattle.measure.specs.Volumes.{hundredths}
 use Rattle.measure.specs.Offsets.{breadths_at_station}
 use Rattle.measure.specs.declared.kinds.Kind.{Kind}

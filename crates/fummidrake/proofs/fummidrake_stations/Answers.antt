@@ -1,5 +1,5 @@
 -- `fummidrake_stations` meets its contract: the code's kind is the definition's.
-use mathlib.Core.Path.{ap, ◌∙◌}
+use Rattle.std.proofs.Common.{ap, ◌∙◌}
 use Rattle.measure.specs.Volumes.{hundredths}
 use Rattle.measure.specs.Offsets.{stations}
 use Rattle.measure.specs.declared.kinds.Kind.{Kind}

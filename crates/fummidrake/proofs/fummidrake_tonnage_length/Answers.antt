@@ -1,5 +1,5 @@
 -- `fummidrake_tonnage_length` meets its contract: the number of the hundredths that `tonnage_length` answers.
-use mathlib.Core.Path.{ap}
+use Rattle.std.proofs.Common.{ap}
 use Rattle.measure.specs.declared.units.Hundredths.{Hundredths}
 use Rattle.fummidrake.proofs.fummidrake_tonnage_length.Goals as goal
 

@@ -1,16 +1,11 @@
 -- How long lines are, by the lengths of what is put one behind the other; and the lines of some spaces.
-use Prim.Native.Nat.{ℕ, ◌+◌, ◌≤◌, ◌<◌}
+use Rattle.std.proofs.Common.{ℕ, ◌+◌, ◌≤◌, ◌<◌, ◌≡◌, refl, List, [], ◌∷◌, ◌++◌, append_assoc, append-nil, add-one, arith, length, take, get_or, length-append, take-suc}
 use Prim.Native.Char.{code}
-use mathlib.Core.Path.{◌≡◌, refl}
-use mathlib.Core.List.{List, [], ◌∷◌, ◌++◌, append_assoc, append-nil}
-use native.Mathlib.Numerals.{add-one}
-use native.Mathlib.Omega.{arith}
-use lib.ListN.{length, take, get_or, length-append}
-use lib.Seq.{take-suc}
 use Rattle.spaces.specs.Space.{empty_space}
 use Rattle.spaces.specs.declared.space.Space.{Space}
 use Rattle.listing.specs.Text.{decimal, hundredths}
 use Rattle.listing.specs.Lines.{figure_line, space_line, space_lines, refusal_line}
+use Rattle.listing.specs.declared.listing.Listing.{Listing}
 use Rattle.listing.specs.Handed.{line_room, PutLines}
 use Rattle.listing.proofs.Laws.Decimal.{number_short, hundredths_short}
 use Rattle.listing.proofs.Laws.Puts.{then}
@@ -69,6 +64,6 @@ pub lines_more : (xs : List Space) (i : ℕ) → i < length xs
 lines_more xs i h =
     rw (add-one i, take-suc xs i empty_space h, lines_append, append-nil)
 
-pub put_more : {l m k a b : List ℕ} {at n r i : ℕ} → PutLines l at a i m n → PutLines m n b 1 k r → PutLines l at (a ++ b) (i + 1) k r
+pub put_more : {l m k : Listing} {a b : List ℕ} {i : ℕ} → PutLines l a i m → PutLines m b 1 k → PutLines l (a ++ b) (i + 1) k
 put_more {l} {m} {k} {a} {b} first second =
     record { put = then first.put second.put; short = rw length-append (omega (arith, first.short, second.short)) }

@@ -1,27 +1,22 @@
 -- The text of a sheet from what the sheet hands out, and of a file from how it is read; a text in its buffer.
-use Prim.Native.Nat.{ℕ, ◌+◌, ◌-◌, ◌<◌, ◌≤◌}
-use mathlib.Core.Path.{◌≡◌, refl, sym, ap, ◌∙◌}
-use mathlib.Core.List.{List, ◌++◌}
-use native.Mathlib.Omega.{arith}
-use borrow.Author.Tests.{lt-ltb, le-ltb, eq-eqb, ne_eqb}
-use lib.ListN.{length, take, replicate, length-append, length-replicate, replicate-append-replicate}
-use lib.Seq.{sets, sets-eq, drop_at}
+use Rattle.std.proofs.Common.{ℕ, ◌+◌, ◌-◌, ◌<◌, ◌≤◌, ◌≡◌, refl, sym, ap, ◌∙◌, List, ◌++◌, arith, lt-ltb, le-ltb, eq-eqb, ne_eqb, length, replicate, length-append, drop_at}
+use lib.ListN.{length-replicate, replicate-append-replicate}
+use lib.Seq.{sets, sets-eq}
 use Rattle.script.specs.Text.{ascii}
-use Rattle.sheet.specs.Sheet.{length_of, standing_count, places_of}
+use Rattle.sheet.specs.Sheet.{length_of, standing_of}
 use Rattle.sheet.specs.Calls.{reported}
 use Rattle.sheet.specs.declared.sheet.Sheet.{Sheet}
 use Rattle.sheet.proofs.Laws.Report.{given, handed_out}
 use Rattle.dayfile.specs.Reading.{read_of}
 use Rattle.dayfile.specs.declared.reading.Reading.{Reading}
 use Rattle.listing.specs.Lines.{figure_line, space_lines, refusal_line}
-use Rattle.listing.specs.Listing.{most_bytes, text_size, sheet_text, file_text, listed}
+use Rattle.listing.specs.Listing.{most_bytes, sheet_text, file_text, listed}
 use Rattle.listing.specs.declared.listing.Listing.{Listing}
-use Rattle.listing.specs.Handed.{Blank}
 
 -- what a sheet that can be reported hands out is what its text is made of
 pub text_handed_out : (s : Sheet) (justified : ℕ) → (reported s justified).number ≡ 0
     → figure_line (ascii "LENGTH") (length_of s).0
-    ++ space_lines (take (standing_count s) (places_of s))
+    ++ space_lines (standing_of s)
     ++ figure_line (ascii "GROSS") (reported s justified).gross
     ++ figure_line (ascii "NET") (reported s justified).net
     ≡ sheet_text s
@@ -29,7 +24,7 @@ unfolding sheet_text
 text_handed_out s justified e =
     let g = given s justified (reported s justified) refl e in
     let h = handed_out s g.is_usable in
-    rw (h.length_is, h.count_is, h.places_are, g.gross_is, g.net_is)
+    rw (h.length_is, h.standing_are, g.gross_is, g.net_is)
 
 -- what a file's text is, by its size and by how it was read
 pub too_long : (file : List ℕ) → most_bytes < length file → file_text file ≡ refusal_line 16 0
@@ -48,16 +43,17 @@ module _ (file : List ℕ) (r : Reading) (is : r ≡ read_of file) where
 abbrev zeros : ℕ → List ℕ
 zeros n = replicate n 0
 
--- a text at the front of zeros
-pub text_over_zeros : (buffer bytes : List ℕ) → Blank buffer → length bytes ≤ text_size
-    → sets buffer 0 bytes ≡ bytes ++ zeros (text_size - length bytes)
-text_over_zeros buffer bytes blank fits =
-    let rest = zeros (text_size - length bytes) in
-    let e : length bytes + (text_size - length bytes) ≡ text_size = omega arith in
+-- a text at the front of so many zeros
+pub text_over_zeros : (room : ℕ) (buffer bytes : List ℕ) → buffer ≡ zeros room → length bytes ≤ room
+    → sets buffer 0 bytes ≡ bytes ++ zeros (room - length bytes)
+text_over_zeros room buffer bytes blank fits =
+    let rest = zeros (room - length bytes) in
+    let e : length bytes + (room - length bytes) ≡ room = omega arith in
     let parts : buffer ≡ zeros (length bytes) ++ rest =
-    blank.zeros ∙ sym (ap zeros e) ∙ sym (replicate-append-replicate (length bytes) (text_size - length bytes) 0) in
+    blank ∙ sym (ap zeros e) ∙ sym (replicate-append-replicate (length bytes) (room - length bytes) 0) in
+    let long : length buffer ≡ room = ap length blank ∙ length-replicate room 0 in
     let z : 0 + length bytes ≡ length bytes = omega arith in
-    sets-eq bytes buffer 0 (omega (arith, blank.size))
+    sets-eq bytes buffer 0 (omega (arith, long))
     ∙ rw (z, parts, drop_at (zeros (length bytes)) rest (length bytes) (length-replicate (length bytes) 0))
 
 -- the size counts bytes of the text

@@ -1,25 +1,22 @@
 -- Laws of the multipliers and sums: one value taken off the front, and bounds.
-use mathlib.Core.Path.{◌≡◌, refl, ap, ◌∙◌}
-use mathlib.Core.List.{List}
-use Prim.Native.Nat.{ℕ, suc, ◌+◌, ◌*◌, ◌%◌, ◌≤◌, ◌<◌, zero-le}
-use native.Mathlib.Numerals.{add-one}
-use native.Mathlib.Nat.{zero-add, add-zero, mul-le-mul_left, add-mul, suc-mul}
-use native.Mathlib.Omega.{arith}
-use lib.Dec.{lit≤, eqb}
-use lib.ListN.{length, drop, get_or}
+use Rattle.std.proofs.Common.{◌≡◌, refl, ap, ◌∙◌, List, ℕ, suc, ◌+◌, ◌*◌, ◌%◌, ◌^◌, ◌≤◌, ◌<◌, zero-le, add-one, zero-add, add-zero, mul-le-mul_left, add-mul, suc-mul, arith, lit≤, eqb, length, drop, get_or}
 use Rattle.measure.specs.Parts.{EvenParts, p2, p4, p6, p8, p10, p12, p14, p16}
 use Rattle.measure.specs.Multipliers.{multiplier, weighted_from, weighted, total}
 use Rattle.measure.specs.Zones.{zone_end}
 use Rattle.measure.specs.Handed.{AllAtMost, none, more}
 use Rattle.measure.proofs.Laws.Lists.{drop_step}
+use Rattle.measure.proofs.Laws.Products.{at_most}
 use Rattle.measure.proofs.Laws.Parts.{chosen}
+use Rattle.std.specs.List.{sum}
+use Rattle.std.proofs.lemmas.List.Recursion.{is_sum_by}
 
 pub weighted_step : (n i : ℕ) (xs : List ℕ) → i < length xs
     → weighted_from n (i + 1) (drop i xs) ≡ multiplier n (i + 1) * get_or xs i 0 + weighted_from n (i + 1 + 1) (drop (i + 1) xs)
 weighted_step n i xs h = ap (weighted_from n (i + 1)) (drop_step xs i 0 h)
 
-pub total_step : (i : ℕ) (xs : List ℕ) → i < length xs → total (drop i xs) ≡ get_or xs i 0 + total (drop (i + 1) xs)
-total_step i xs h = ap total (drop_step xs i 0 h)
+-- the plain sum is std's
+pub total_sum : (xs : List ℕ) → total xs ≡ sum xs
+total_sum = is_sum_by total (λ (x : ℕ). x) refl (λ _ _. refl)
 
 pub multiplier_le : (n number : ℕ) → multiplier n number ≤ 4
 unfolding multiplier
@@ -27,6 +24,10 @@ multiplier_le n number =
     chosen (λ x. x ≤ 4) (eqb number 1) (lit≤ tt)
     (chosen (λ x. x ≤ 4) (eqb number (n + 1)) (lit≤ tt)
     (chosen (λ x. x ≤ 4) (eqb (number % 2) 0) (lit≤ tt) (lit≤ tt)))
+
+-- a value's term in the sum is at most four times the greatest value
+pub term_le : (n number x : ℕ) → x < 2 ^ 32 → multiplier n number * x ≤ 4 * 2 ^ 32
+term_le n number x h = let m = multiplier_le n number in at_most 4 (2 ^ 32) (omega arith) (omega arith)
 
 -- the zones fill the length: the multipliers add up to three times the parts
 pub zones_fill : {n : ℕ} → EvenParts n → zone_end n (n + 1) ≡ 3 * n

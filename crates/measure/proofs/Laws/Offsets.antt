@@ -1,12 +1,5 @@
 -- What offsets of which neither 2 nor 3 applies are: in range and of the right number, as the functions inside the crate ask it.
-use mathlib.Core.Path.{◌≡◌, refl, ◌∙◌}
-use mathlib.Core.Bool.{Bool, true, false, not, ◌&&◌}
-use mathlib.Core.List.{List, [], ◌∷◌}
-use Prim.Native.Nat.{ℕ, ◌+◌, ◌*◌, ◌≤◌}
-use native.Mathlib.Omega.{arith}
-use borrow.Author.Tests.{eqb-true}
-use lib.Dec.{eqb, lit≤}
-use lib.ListN.{length}
+use Rattle.std.proofs.Common.{◌≡◌, refl, ◌∙◌, Bool, true, false, not, ◌&&◌, List, [], ◌∷◌, ℕ, ◌+◌, ◌*◌, ◌≤◌, arith, eqb-true, eqb, lit≤, length}
 use Rattle.measure.specs.Kinds.{kind_of, is_kind}
 use Rattle.measure.specs.Rounding.{nearest}
 use Rattle.measure.specs.Parts.{EvenParts, parts_of, under_deck_parts, depth_parts}
@@ -19,7 +12,7 @@ use Rattle.measure.specs.declared.units.Hundredths.{Hundredths}
 use Rattle.measure.specs.declared.kinds.Kind.{Kind}
 use Rattle.measure.specs.declared.kinds.Kind.TheVariants.{UnderDeck, BetweenDeck, Superstructure, Hatchway, Room, NoKind}
 use Rattle.measure.proofs.Laws.Tests.{and_left, and_right}
-use Rattle.measure.proofs.Laws.Parts.{most, table_even, under_deck_even, superstructure_even, depth_even}
+use Rattle.measure.proofs.Laws.Parts.{most, table_even, under_deck_even, superstructure_even, depth_even, parts_most}
 use Rattle.measure.proofs.Laws.Ranges.{includes_most, all_at_most}
 use Rattle.measure.proofs.Laws.Volumes.{under_deck_tons_le, level_tons_le, box_tons_le}
 
@@ -99,6 +92,11 @@ under_deck_taken t l hs bs taken =
       };
     }
 
+-- and has no more than 17 stations
+pub taken_few : (k : Kind) (t l : Hundredths) (hs bs : List ℕ) → in_range k t l hs bs ≡ true → counted k t l hs bs ≡ true → length hs ≤ 17
+taken_few k t l hs bs r n =
+    omega (arith, taken_stations k t l hs bs (record { ranged = r; numbered = n }), parts_most k t l)
+
 -- and so is a space with one breadth a station: a B or an S, and an H or an R
 module _ (k : Kind) (t l : Hundredths) (hs bs : List ℕ) (one : breadths_at_station k (middle_of hs) ≡ 1) (taken : Taken k t l hs bs) where
   pub one_a_station : length bs ≡ length hs
@@ -128,6 +126,9 @@ module _ (k : Kind) (t l : Hundredths) (hs bs : List ℕ) (one : breadths_at_sta
         high = taken_high k t l hs bs taken;
         broad = taken_broad k t l hs bs taken;
       }
+
+-- by which a space of each kind is handed what it asks
+pub ruleset each_taken = (under_deck_taken, level_taken, box_taken, table_even, superstructure_even)
 
 -- "tonnage 4 (at most 100,000,000, which no entry from offsets in range can pass)"
 pub tonnage_at_most : (k : Kind) (t l : Hundredths) (hs bs : List ℕ) → Taken k t l hs bs → tonnage k t l hs bs ≤ most_tons

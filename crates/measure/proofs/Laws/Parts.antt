@@ -1,10 +1,5 @@
 -- Every number of parts is even, from 2 to 16; the table is one rule of the length.
-use mathlib.Core.Path.{◌≡◌, refl}
-use mathlib.Core.Bool.{Bool, true, false, cond}
-use Prim.Native.Nat.{ℕ, zero, suc, ◌+◌, ◌-◌, ◌*◌, ◌/◌, ◌≤◌, ◌<◌, min, max}
-use native.Mathlib.Omega.{arith}
-use lib.Dec.{lit≤, leb, ltb, eqb}
-use borrow.Author.Tests.{leb-true, leb-false}
+use Rattle.std.proofs.Common.{◌≡◌, refl, Bool, true, false, cond, ℕ, zero, suc, ◌+◌, ◌-◌, ◌*◌, ◌/◌, ◌≤◌, ◌<◌, min, max, arith, lit≤, leb, ltb, eqb, leb-true, leb-false}
 use Rattle.measure.specs.Parts.{EvenParts, p2, p4, p6, p8, p10, p12, p14, p16, table_parts, step_parts, under_deck_parts, depth_parts, distance, nearer, nearest_parts, superstructure_parts, parts_of}
 use Rattle.measure.specs.declared.units.Hundredths.{Hundredths}
 use Rattle.measure.specs.declared.kinds.Kind.{Kind}
@@ -63,6 +58,9 @@ table_by_fifties l =
         by true e = up_to_lem (leb-true _ _ e)
         by false e = over (leb-false _ _ e)
 
+pub table_most : (l : Hundredths) → table_parts l ≤ 16
+table_most l = most (table_even l)
+
 pub step_even : (l : Hundredths) → EvenParts (step_parts l)
 unfolding step_parts
 step_even l = chosen EvenParts (leb l.0 2000) p2 (chosen EvenParts (ltb l.0 4000) p4 (table_even l))
@@ -74,6 +72,15 @@ under_deck_even t l = chosen EvenParts (eqb l.0 t.0) (table_even l) (step_even l
 pub depth_even : (d : Hundredths) → EvenParts (depth_parts d)
 unfolding depth_parts
 depth_even d = chosen EvenParts (leb d.0 1600) p4 p6
+
+pub depth_most : (d : Hundredths) → depth_parts d ≤ 16
+depth_most d = most (depth_even d)
+
+pub depth_some : (d : Hundredths) → 1 ≤ depth_parts d
+depth_some d = omega (arith, least (depth_even d))
+
+pub under_deck_most : (t l : Hundredths) → under_deck_parts t l ≤ 16
+under_deck_most t l = most (under_deck_even t l)
 
 nearer_even : (t : Hundredths) (n : ℕ) (l : Hundredths) (b k : ℕ) → EvenParts b → EvenParts k → EvenParts (nearer t n l b k)
 unfolding nearer

@@ -1,8 +1,6 @@
 -- Laws of `nearest`: the remainder decides it, and bounds.
-use mathlib.Core.Path.{◌≡◌, sym, ap, ◌∙◌}
-use Prim.Native.Nat.{ℕ, ◌+◌, ◌-◌, ◌*◌, ◌/◌, ◌%◌, ◌≤◌, ◌<◌}
-use native.Mathlib.Nat.{div-zero, mul-le-mul_left, mul-le-mul_right, div-mul-le_self, lt-div-mul-add, div-lt_iff_lt-mul, div-eq_of_lt-le, div-add-mod', mul-one, mul_comm, mul_assoc, mul_left_comm, add-mul, le_trans, le_of_eq}
-use native.Mathlib.Omega.{arith}
+use Rattle.std.proofs.Common.{◌≡◌, sym, ap, ◌∙◌, ℕ, ◌+◌, ◌-◌, ◌*◌, ◌/◌, ◌%◌, ◌≤◌, ◌<◌, mul-le-mul_left, mul-le-mul_right, div-mul-le_self, div-lt_iff_lt-mul, div-add-mod', mul-one, mul_comm, mul_assoc, mul_left_comm, add-mul, le_trans, le_of_eq, arith}
+use native.Mathlib.Nat.{div-zero, lt-div-mul-add, div-eq_of_lt-le}
 use Rattle.measure.specs.Rounding.{nearest}
 
 -- q (2 b) and (q + 1) (2 b) in terms of the product q b

@@ -1,26 +1,19 @@
 -- Laws of the areas taken, what a tank of which no test applies is, and what its number says.
-use mathlib.Core.Path.{◌≡◌, refl, sym, ap, subst, ◌∙◌}
-use mathlib.Core.Bool.{Bool, true, false, cond, not, ◌&&◌, ◌||◌}
-use mathlib.Core.List.{List, [], ◌∷◌}
-use Prim.Native.Nat.{ℕ, zero, suc, ◌+◌, ◌*◌, ◌≤◌, ◌<◌}
-use native.Mathlib.Nat.{add-zero, le_of_eq}
-use native.Mathlib.Omega.{arith}
-use borrow.Author.Tests.{eqb-true}
-use lib.Dec.{leb, eqb}
-use lib.ListN.{length, take, drop, get_or, length-drop}
-use lib.Seq.{get_or-drop, drop-drop}
+use Rattle.std.proofs.Common.{◌≡◌, refl, sym, ap, subst, ◌∙◌, Bool, true, false, cond, not, ◌&&◌, ◌||◌, List, [], ◌∷◌, ℕ, zero, suc, ◌+◌, ◌*◌, ◌≤◌, ◌<◌, max, add-zero, le_of_eq, arith, eqb-true, leb, eqb, length, take, drop, get_or, length-drop, get_or-drop, drop-drop, rules}
+use Rattle.std.specs.Int.{from_bool}
+use Rattle.std.proofs.lemmas.Bool.Decides.{nat_tests}
 use Rattle.measure.specs.Parts.{EvenParts, p4, p6}
 use Rattle.measure.specs.Sections.{layout_of, doubled, sections_over, sections}
 use Rattle.measure.specs.Volumes.{areas}
 use Rattle.measure.specs.Ranges.{includes, includes_all, lengths, fores, heights, breadths}
 use Rattle.measure.specs.Refusals.{first_of}
 use Rattle.measure.specs.Tanks.{larger, taken, tank_in_range, passes_end, has_m, measurable, all_sections, measured_tank}
-use Rattle.measure.specs.Handed.{AllAtMost, none, more, AreasHanded, Laid, Doubled, TankHanded}
+use Rattle.measure.specs.Handed.{AllAtMost, none, more, AreasHanded, Laid, TankHanded}
 use Rattle.measure.specs.declared.units.Hundredths.{Hundredths}
 use Rattle.measure.specs.declared.kinds.Kind.TheVariants.{UnderDeck, Room}
 use Rattle.measure.specs.declared.sections.Layout.{Layout}
 use Rattle.measure.proofs.Laws.Tests.{and_left, and_right}
-use Rattle.measure.proofs.Laws.Lists.{front_step}
+use Rattle.measure.proofs.Laws.Lists.{drop_step}
 use Rattle.measure.proofs.Laws.Parts.{chosen, most}
 use Rattle.measure.proofs.Laws.Ranges.{includes_most, all_at_most}
 use Rattle.measure.proofs.Laws.Volumes.{length_areas, areas_le}
@@ -34,8 +27,8 @@ larger_same a = same (leb a a)
     same false = refl
 
 -- the area of the first station is the larger of its first and its last
-front_taken : (two : Bool) (later : List Bool) (areas : List ℕ) → cond two 1 0 < length areas
-    → taken (two ∷ later) areas ≡ larger (get_or areas 0 0) (get_or areas (cond two 1 0) 0) ∷ taken later (drop (1 + cond two 1 0) areas)
+front_taken : (two : Bool) (later : List Bool) (areas : List ℕ) → from_bool two < length areas
+    → taken (two ∷ later) areas ≡ larger (get_or areas 0 0) (get_or areas (from_bool two) 0) ∷ taken later (drop (1 + from_bool two) areas)
 front_taken false later [] h = absurd (omega arith)
 front_taken true later [] h = absurd (omega arith)
 front_taken false later (a ∷ areas) h = ap (λ (x : ℕ). x ∷ taken later areas) (sym (larger_same a))
@@ -43,17 +36,21 @@ front_taken true later (a ∷ []) h = absurd (omega arith)
 front_taken true later (a ∷ b ∷ areas) h = refl
 
 -- the areas of the stations from j on are the one of j and those from j + 1 on
-pub taken_step : (two : List Bool) (stations j : ℕ) (areas : List ℕ) (first : ℕ) {more : ℕ} → stations ≤ length two → j < stations
-    → more ≡ cond (get_or two j false) 1 0 → first + more < length areas
-    → taken (drop j (take stations two)) (drop first areas)
-    ≡ larger (get_or areas first 0) (get_or areas (first + more) 0) ∷ taken (drop (j + 1) (take stations two)) (drop (first + more + 1) areas)
-taken_step two stations j areas first {more} enough h second there =
-    let later = drop (j + 1) (take stations two) in
-    let room : cond (get_or two j false) 1 0 < length (drop first areas) = rw (length-drop first areas) (omega arith) in
+pub taken_step : (two : List Bool) (j : ℕ) (areas : List ℕ) (first : ℕ) {more : ℕ} → j < length two
+    → more ≡ from_bool (get_or two j false) → first + more < length areas
+    → taken (drop j two) (drop first areas)
+    ≡ larger (get_or areas first 0) (get_or areas (first + more) 0) ∷ taken (drop (j + 1) two) (drop (first + more + 1) areas)
+taken_step two j areas first {more} h second there =
+    let later = drop (j + 1) two in
+    let room : from_bool (get_or two j false) < length (drop first areas) = rw (length-drop first areas) (omega arith) in
     let on : first + (1 + more) ≡ first + more + 1 = omega arith in
-    ap (λ (l : List Bool). taken l (drop first areas)) (front_step two stations j false enough h)
+    ap (λ (l : List Bool). taken l (drop first areas)) (drop_step two j false h)
     ∙ front_taken (get_or two j false) later (drop first areas) room
     ∙ rw (← second, get_or-drop first areas 0 0, get_or-drop first areas more 0, drop-drop (1 + more) first areas, on, add-zero first)
+
+-- the larger is the maximum
+pub larger_max : (a b : ℕ) → larger a b ≡ max a b
+larger_max a b = search (rules, nat_tests)
 
 -- it looks only at as many areas as the stations ask
 pub taken_looks : (two : List Bool) (n : ℕ) (areas : List ℕ) → sections_over two ≤ n → taken two (take n areas) ≡ taken two areas
@@ -97,6 +94,9 @@ has_m_even m e = by (eqb m 4) refl (eqb m 6) refl e
     by false p true q e = subst EvenParts (sym (eqb-true m 6 q)) p6
     by false p false q e = let z : ◌≡◌ {A = ℕ} 0 1 = cc in absurd (omega arith)
 
+pub has_m_most : (m : ℕ) → has_m m ≡ true → m ≤ 16
+has_m_most m e = most (has_m_even m e)
+
 -- is handed what it asks
 pub tank_handed : (t u : Hundredths) (m : ℕ) (l f : Hundredths) (ds bs : List ℕ) {a : Layout} → a ≡ layout_of t u l f → Laid a
     → tank_in_range l f ds bs ≡ true → has_m m ≡ true → all_sections a m ds bs ≡ true → TankHanded a m ds bs
@@ -135,12 +135,12 @@ module _ (a : Layout) (m : ℕ) (ds bs : List ℕ) (handed : TankHanded a m ds b
       }
 
   -- and are taken from the first places
-  pub areas_taken : (two : List Bool) (first found : List ℕ) → Doubled a two → take (length ds) first ≡ areas m ds bs
-      → take (a.p + 1) found ≡ taken (take (a.p + 1) two) first → take (a.p + 1) found ≡ taken (doubled a) (areas m ds bs)
+  pub areas_taken : (two : List Bool) (first found : List ℕ) → two ≡ doubled a → take (length ds) first ≡ areas m ds bs
+      → take (length two) found ≡ taken two first → take (length two) found ≡ taken (doubled a) (areas m ds bs)
   unfolding sections
   areas_taken two first found told given took =
       took
-      ∙ ap (λ (l : List Bool). taken l first) told.first_are
+      ∙ ap (λ (l : List Bool). taken l first) told
       ∙ sym (taken_looks (doubled a) (length ds) first (le_of_eq (sym handed.asked)))
       ∙ ap (taken (doubled a)) given
 

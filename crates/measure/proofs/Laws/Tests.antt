@@ -1,9 +1,6 @@
 -- Tests and what they say: of a call, of a conjunction, and of an order.
-use mathlib.Core.Path.{◌≡◌, refl, sym, ◌∙◌}
-use mathlib.Core.Bool.{Bool, true, false, ◌&&◌}
-use Prim.Native.Nat.{ℕ, ◌≤◌, ◌<◌}
-use lib.Dec.{ltb}
-use borrow.Author.Tests.{ltb-true, ltb-false, lt-ltb, le-ltb}
+use Rattle.std.proofs.Common.{◌≡◌, refl, sym, ◌∙◌, Bool, true, false, cond, ◌&&◌, ℕ, ◌≤◌, ◌<◌, ltb, lit≤, ltb-true, ltb-false, lt-ltb, le-ltb}
+use Rattle.std.specs.Int.{from_bool}
 
 -- what was asked is so, or isn't, as it was answered
 pub as_answered : {asked answer said : Bool} → answer ≡ asked → answer ≡ said → asked ≡ said
@@ -16,6 +13,15 @@ and_left false b e = e
 pub and_right : (a b : Bool) → (a && b) ≡ true → b ≡ true
 and_right true b e = e
 and_right false b e = cc
+
+-- what a test counts for: 1 where it holds, else 0
+pub one_if : (b : Bool) → from_bool b ≡ cond b 1 0
+one_if true = refl
+one_if false = refl
+
+pub one_if_most : (b : Bool) → from_bool b ≤ 1
+one_if_most true = lit≤ tt
+one_if_most false = lit≤ tt
 
 -- a number is below another or it isn't
 pub by_order : {C : Type 0} (a b : ℕ) → (a < b → C) → (b ≤ a → C) → C

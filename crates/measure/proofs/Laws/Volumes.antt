@@ -1,17 +1,11 @@
 -- Laws of areas and volumes: one station taken off the front, and bounds.
-use mathlib.Core.Path.{◌≡◌, refl, sym, ap, ◌∙◌}
-use mathlib.Core.List.{List, [], ◌∷◌, ◌++◌}
-use Prim.Native.Nat.{ℕ, zero, suc, ◌+◌, ◌*◌, ◌≤◌, ◌<◌, zero-le}
-use native.Mathlib.Nat.{suc-mul}
-use native.Mathlib.Omega.{arith}
-use lib.ListN.{length, take, drop, get_or, set, length-drop}
-use lib.Seq.{drop-drop, length-take-le}
+use Rattle.std.proofs.Common.{◌≡◌, refl, sym, ap, ◌∙◌, List, [], ◌∷◌, ◌++◌, ℕ, zero, suc, ◌+◌, ◌*◌, ◌≤◌, zero-le, suc-mul, arith, length, take, drop, get_or, length-drop, length-take-le, length-append}
+use Rattle.std.proofs.Math.Seq.{take-append_seam, drop-append_seam}
 use Rattle.measure.specs.Thirds.{third_of_length, third_of_depth}
 use Rattle.measure.specs.Multipliers.{weighted, total}
 use Rattle.measure.specs.Volumes.{hundredths, station_area, areas, tons, volume_over, under_deck_volume, level_volume, box_volume}
 use Rattle.measure.specs.Handed.{AllAtMost, none, more, StationHanded, SectionsHanded, AreasHanded, UnderDeckHanded, LevelHanded, BoxHanded, most_tons, most_area}
 use Rattle.measure.specs.declared.units.Hundredths.{Hundredths}
-use Rattle.measure.proofs.Laws.Lists.{drop_step, store_step}
 use Rattle.measure.proofs.Laws.Products.{at_most}
 use Rattle.measure.proofs.Laws.Rounding.{nearest_cap, scaled}
 use Rattle.measure.proofs.Laws.Parts.{most}
@@ -33,22 +27,6 @@ at_most_take zero r = none
 at_most_take (suc i) none = none
 at_most_take (suc i) (more h r) = more h (at_most_take i r)
 
--- the areas from place i on are the one there and those from place i + 1 on
-pub areas_step : (m i at : ℕ) (ds bs : List ℕ) → i < length ds
-    → areas m (drop i ds) (drop at bs) ≡ station_area m (hundredths (get_or ds i 0)) (take (m + 1) (drop at bs)) ∷ areas m (drop (i + 1) ds) (drop (at + (m + 1)) bs)
-areas_step m i at ds bs h =
-    ap (λ (l : List ℕ). areas m l (drop at bs)) (drop_step ds i 0 h)
-    ∙ ap (λ (l : List ℕ). station_area m (hundredths (get_or ds i 0)) (take (m + 1) (drop at bs)) ∷ areas m (drop (i + 1) ds) l) (drop-drop (m + 1) at bs)
-
--- the areas found, and one more: with those left they are all
-pub areas_found : (m i at : ℕ) (ds bs found : List ℕ) → i < length ds → i < length found
-    → take (i + 1) (set found i (station_area m (hundredths (get_or ds i 0)) (take (m + 1) (drop at bs)))) ++ areas m (drop (i + 1) ds) (drop (at + (m + 1)) bs)
-    ≡ take i found ++ areas m (drop i ds) (drop at bs)
-areas_found m i at ds bs found h k =
-    let a = station_area m (hundredths (get_or ds i 0)) (take (m + 1) (drop at bs)) in
-    store_step found i a (areas m (drop (i + 1) ds) (drop (at + (m + 1)) bs)) k
-    ∙ sym (ap (λ (l : List ℕ). take i found ++ l) (areas_step m i at ds bs h))
-
 pub length_areas : (m : ℕ) (ds bs : List ℕ) → length (areas m ds bs) ≡ length ds
 length_areas m [] bs = refl
 length_areas m (d ∷ ds) bs = ap suc (length_areas m ds (drop (m + 1) bs))
@@ -60,16 +38,34 @@ station_le {m} {d} g =
     let k = most g.parts in
     omega (arith, g.deep)
 
--- the station whose breadths begin at a place is handed what it asks
-pub station_handed : {m : ℕ} {ds bs : List ℕ} (i at : ℕ) → SectionsHanded m ds bs → at + (m + 1) ≤ length bs
-    → StationHanded m (hundredths (get_or ds i 0)) (take (m + 1) (drop at bs))
-station_handed {m = m} {bs = bs} i at g h =
-    record {
-      parts = g.depth_parts;
-      deep = at_most_get i g.deep;
-      count = length-take-le (m + 1) (drop at bs) (omega (arith, length-drop at bs));
-      broad = at_most_take (m + 1) (at_most_drop at g.broad);
-    }
+-- what is at most b at every place of two lists put together is so in each
+at_most_front : {b : ℕ} (xs ys : List ℕ) → AllAtMost b (xs ++ ys) → AllAtMost b xs
+at_most_front [] ys r = none
+at_most_front (x ∷ xs) ys (more h r) = more h (at_most_front xs ys r)
+
+at_most_behind : {b : ℕ} (xs ys : List ℕ) → AllAtMost b (xs ++ ys) → AllAtMost b ys
+at_most_behind [] ys r = r
+at_most_behind (x ∷ xs) ys (more h r) = at_most_behind xs ys r
+
+-- the first section is handed what it asks, and so are those behind it
+pub first_handed : {m d : ℕ} {ds bs : List ℕ} (b : List ℕ) → length b ≡ m + 1 → SectionsHanded m (d ∷ ds) (b ++ bs)
+    → StationHanded m (hundredths d) b × SectionsHanded m ds bs
+first_handed {m} {d} {ds} {bs} b size g = (
+  record { parts = g.depth_parts; deep = at_most_get 0 g.deep; count = size; broad = at_most_front b bs g.broad },
+  record {
+    depth_parts = g.depth_parts;
+    few = omega (arith, g.few);
+    count = omega (arith, g.count, length-append b bs, size, suc-mul (length ds) (m + 1));
+    deep = at_most_drop 1 g.deep;
+    broad = at_most_behind b bs g.broad;
+  },
+)
+
+-- the area of the first section found, and those of the ones behind it
+pub area_first : (m d : ℕ) (ds b bs : List ℕ) → length b ≡ m + 1
+    → areas m (d ∷ ds) (b ++ bs) ≡ station_area m (hundredths d) b ∷ areas m ds bs
+area_first m d ds b bs size =
+    rw (sym size, take-append_seam b bs, drop-append_seam b bs) refl
 
 pub areas_le : {m : ℕ} {ds bs : List ℕ} → SectionsHanded m ds bs → AllAtMost most_area (areas m ds bs)
 areas_le {m} {ds} {bs} g = each ds bs g.count g.deep g.broad

@@ -1,11 +1,9 @@
 -- Laws of the zones: the next end, among whole numbers. Where `end` and `point` are scaled by 3 n p and `third` is u p, they compare as
 -- the fractions do.
-use mathlib.Core.Path.{◌≡◌, sym, ◌∙◌}
-use mathlib.Core.Bool.{cond, ◌||◌}
-use Prim.Native.Nat.{ℕ, suc, ◌+◌, ◌*◌}
-use native.Mathlib.Nat.{add-mul, mul_assoc}
-use native.Mathlib.Numerals.{add-one}
-use lib.Dec.{eqb, ltb}
+use Rattle.std.proofs.Common.{◌≡◌, sym, ◌∙◌, ◌||◌, ℕ, suc, ◌+◌, ◌*◌, add-mul, mul_assoc, add-one, eqb, ltb}
+use Rattle.std.proofs.Math.Bool.{or_comm}
+use Rattle.std.specs.Int.{from_bool}
+use Rattle.measure.proofs.Laws.Tests.{one_if}
 use Rattle.measure.specs.Multipliers.{multiplier}
 use Rattle.measure.specs.Zones.{zone_end, Point, end_met, ends_before}
 use Rattle.measure.specs.declared.units.Hundredths.{Hundredths}
@@ -18,9 +16,9 @@ module _ (n : ℕ) (u : Hundredths) (x : Point) (k : ℕ) where
   scaled t e = mul_assoc (zone_end n (suc k)) u.0 x.under ∙ sym (rw (t, add-one k) at e)
 
   pub ends_next : {third point end : ℕ} → third ≡ u.0 * x.under → point ≡ x.over * (3 * n) → end ≡ zone_end n (k + 1) * third
-      → ends_before n u x k + cond (ltb end point) 1 0 ≡ ends_before n u x (k + 1)
-  ends_next t p e = rw (add-one k, scaled t e, p)
+      → ends_before n u x k + from_bool (ltb end point) ≡ ends_before n u x (k + 1)
+  ends_next {point = point} {end = end} t p e = rw (add-one k, scaled t e, one_if (ltb end point), p)
 
   pub met_next : {third point end : ℕ} → third ≡ u.0 * x.under → point ≡ x.over * (3 * n) → end ≡ zone_end n (k + 1) * third
-      → (eqb point end || end_met n u x k) ≡ end_met n u x (k + 1)
-  met_next t p e = rw (add-one k, scaled t e, p)
+      → (end_met n u x k || eqb point end) ≡ end_met n u x (k + 1)
+  met_next {point = point} {end = end} t p e = rw (or_comm (end_met n u x k) (eqb point end), add-one k, scaled t e, p)

@@ -1,17 +1,12 @@
 -- Hex digits: one byte more, read and written.
-use Prim.Native.Nat.{ℕ, suc, ◌+◌, ◌*◌, ◌/◌, ◌%◌, ◌<◌, ◌≤◌, min}
-use mathlib.Core.Path.{◌≡◌, refl, ap, ◌∙◌}
-use mathlib.Core.Bool.{true, and-eq-true_iff}
-use mathlib.Core.List.{List, [], ◌∷◌}
-use native.Mathlib.Numerals.{add-one}
-use native.Mathlib.Omega.{arith}
-use borrow.Author.Tests.{leb-true}
-use lib.Dec.{leb}
-use lib.ListN.{length, take, drop, get_or, length-take, drop_of_length-le}
-use lib.Seq.{drop-cons, get_or-take}
+use Rattle.std.proofs.Common.{ℕ, zero, suc, ◌+◌, ◌*◌, ◌/◌, ◌%◌, ◌<◌, ◌≤◌, ◌≡◌, refl, ap, subst, ◌∙◌, true, List, [], ◌∷◌, ◌++◌, arith, leb-true, leb, length, get_or}
+use mathlib.Core.Bool.{and-eq-true_iff}
+use Rattle.std.specs.declared.slice.ChunksExact.{ChunksExact}
+use Rattle.std.specs.Slice.Iter.{chunks_exact_rest, chunks_exact_size, chunks_exact_steps}
+use Rattle.std.proofs.lemmas.Iterator.{YieldsList}
+use Rattle.std.proofs.lemmas.Iterator.Splits.{YieldsList-from_shown_while}
 use Rattle.script.specs.Words.{is_decimal, is_letter}
 use Rattle.script.specs.Hex.{digit_value, hex_digit, bytes_of, hex_of}
-use Rattle.script.proofs.Laws.Parts.{ahead}
 
 -- ---- a digit's value
 
@@ -27,28 +22,66 @@ letter_range x e =
 
 -- ---- digits read
 
--- two digits ahead are a byte
-pub byte_ahead : (xs : List ℕ) (at : ℕ) → at + 1 < length xs
-    → bytes_of (drop at xs) ≡ (digit_value (get_or xs at 0) * 16 + digit_value (get_or xs (at + 1) 0)) ∷ bytes_of (drop (at + 2) xs)
-byte_ahead xs at h =
-    let e : at + 1 ≡ suc at = add-one at in
-    let f : at + 2 ≡ suc (suc at) = omega arith in
-    rw (drop-cons xs at 0 (omega arith), e, f, drop-cons xs (suc at) 0 (omega arith))
+pub bytes_length : (digits : List ℕ) → length (bytes_of digits) ≡ length digits / 2
+bytes_length [] = refl
+bytes_length (x ∷ []) = refl
+bytes_length (x ∷ y ∷ rest) = omega (arith, bytes_length rest)
 
--- and fewer are none
-pub none_ahead : (xs : List ℕ) → length xs < 2 → bytes_of xs ≡ []
-none_ahead [] h = refl
-none_ahead (x ∷ []) h = refl
-none_ahead (x ∷ y ∷ xs) h = let z : ⊥ = omega arith in absurd z
+-- the digits two by two, as `chunks_exact` gives them
+abbrev pub pairs_of : List ℕ → List (List ℕ)
+pairs_of [] = []
+pairs_of (x ∷ []) = []
+pairs_of (x ∷ y ∷ rest) = (x ∷ y ∷ []) ∷ pairs_of rest
+
+no_pair : (xs : List ℕ) → length xs < 2 → length (pairs_of xs) ≡ 0
+no_pair [] h = refl
+no_pair (x ∷ []) h = refl
+no_pair (x ∷ y ∷ rest) h = absurd (omega arith)
+
+pair_ahead : (xs pair rest : List ℕ) → xs ≡ pair ++ rest → length pair ≡ 2 → pairs_of xs ≡ pair ∷ pairs_of rest
+pair_ahead xs [] rest e h = absurd (omega arith)
+pair_ahead xs (x ∷ []) rest e h = absurd (omega arith)
+pair_ahead xs (x ∷ y ∷ []) rest e h = ap pairs_of e
+pair_ahead xs (x ∷ y ∷ z ∷ more) rest e h = absurd (omega arith)
+
+pub pairs_yielded : {s : ChunksExact ℕ} (digits : List ℕ) → chunks_exact_rest s ≡ digits → chunks_exact_size s ≡ 2
+    → YieldsList chunks_exact_steps (λ x. x.now) s (pairs_of digits)
+pairs_yielded {s = s} digits rest two =
+    subst (YieldsList chunks_exact_steps (λ x. x.now) s) (ap pairs_of rest)
+    (YieldsList-from_shown_while chunks_exact_steps (λ x. x.now) (λ (t : ChunksExact ℕ). pairs_of (chunks_exact_rest t)) (λ (t : ChunksExact ℕ). chunks_exact_size t ≡ 2)
+    (λ t u p k. no_pair (chunks_exact_rest t) (omega (arith, k.1.0, p)))
+    (λ t x u p k. (k.0 ∙ p, pair_ahead (chunks_exact_rest t) x.now (chunks_exact_rest u) k.1.0 (k.1.1 ∙ p)))
+    s two)
+
+pub pairs_length : (digits : List ℕ) → length (pairs_of digits) ≡ length (bytes_of digits)
+pairs_length [] = refl
+pairs_length (x ∷ []) = refl
+pairs_length (x ∷ y ∷ rest) = ap suc (pairs_length rest)
+
+pub pair_length : (digits : List ℕ) (k : ℕ) (pair : List ℕ) → k < length (pairs_of digits) → pair ≡ get_or (pairs_of digits) k pair → length pair ≡ 2
+pair_length [] k pair h e = absurd (omega arith)
+pair_length (x ∷ []) k pair h e = absurd (omega arith)
+pair_length (x ∷ y ∷ rest) zero pair h e = ap length e
+pair_length (x ∷ y ∷ rest) (suc k) pair h e = pair_length rest k pair (omega arith) e
+
+pub byte_read : (digits : List ℕ) (k : ℕ) (pair : List ℕ) → k < length (pairs_of digits) → pair ≡ get_or (pairs_of digits) k pair
+    → digit_value (get_or pair 0 0) * 16 + digit_value (get_or pair 1 0) ≡ get_or (bytes_of digits) k 0
+byte_read [] k pair h e = absurd (omega arith)
+byte_read (x ∷ []) k pair h e = absurd (omega arith)
+byte_read (x ∷ y ∷ rest) zero pair h e = ap (λ (p : List ℕ). digit_value (get_or p 0 0) * 16 + digit_value (get_or p 1 0)) e
+byte_read (x ∷ y ∷ rest) (suc k) pair h e = byte_read rest k pair (omega arith) e
 
 -- ---- digits written
 
--- a byte ahead that has room is its two digits
-pub digits_ahead : (bytes : List ℕ) (most i : ℕ) → i < length bytes → i < most
-    → hex_of (drop i (take most bytes)) ≡ hex_digit (get_or bytes i 0 / 16) ∷ hex_digit (get_or bytes i 0 % 16) ∷ hex_of (drop (i + 1) (take most bytes))
-digits_ahead bytes most i h g =
-    let fit : i < length (take most bytes) = omega (arith, length-take most bytes) in
-    ap hex_of (ahead (take most bytes) i fit) ∙ ap (λ (b : ℕ). hex_of (b ∷ drop (i + 1) (take most bytes))) (get_or-take most bytes i 0 g)
+pub hex_length : (bytes : List ℕ) → length (hex_of bytes) ≡ 2 * length bytes
+hex_length [] = refl
+hex_length (b ∷ bs) = omega (arith, hex_length bs)
 
-pub digits_ended : (bytes : List ℕ) (most i : ℕ) → min (length bytes) most ≤ i → hex_of (drop i (take most bytes)) ≡ []
-digits_ended bytes most i h = ap hex_of (drop_of_length-le (take most bytes) {i = i} (omega (arith, length-take most bytes)))
+pub digits_written : (bytes : List ℕ) (i : ℕ) → i < length bytes
+    → (hex_digit (get_or bytes i 0 / 16) ≡ get_or (hex_of bytes) (2 * i) 0) × (hex_digit (get_or bytes i 0 % 16) ≡ get_or (hex_of bytes) (2 * i + 1) 0)
+digits_written [] i h = absurd (omega arith)
+digits_written (b ∷ bs) zero h = (refl, refl)
+digits_written (b ∷ bs) (suc i) h =
+    let e : 2 * suc i ≡ suc (suc (2 * i)) = omega arith in
+    let f : 2 * suc i + 1 ≡ suc (suc (2 * i + 1)) = omega arith in
+    rw (f, e) (digits_written bs i (omega arith))

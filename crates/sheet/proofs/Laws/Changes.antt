@@ -1,25 +1,18 @@
 -- What the standing spaces after a change are in the sheet's places.
-use mathlib.Core.Path.{◌≡◌, refl, sym, ap, ◌∙◌}
-use mathlib.Core.Bool.{Bool, true, false, cond}
-use mathlib.Core.List.{List, [], ◌∷◌, ◌++◌, append-nil}
-use Prim.Native.Nat.{ℕ, suc, ◌+◌, ◌-◌, ◌≤◌, ◌<◌, min}
+use Rattle.std.proofs.Common.{◌≡◌, refl, sym, ap, ◌∙◌, Bool, true, false, cond, List, [], ◌∷◌, ◌++◌, append-nil, ℕ, suc, ◌+◌, ◌-◌, ◌≤◌, ◌<◌, min, add-one, arith, le-leb, leb-true, leb-false, leb, length, take, drop, get_or, set, length-append, length-drop, length-set, take-append-drop, drop_of_length-le, length-take-le, take_all, take-take, get_or-take, drop-set-lt, drop-cons}
 use native.Mathlib.Nat.{min-eq_left, min-eq_right, min-le_right}
-use native.Mathlib.Numerals.{add-one}
-use native.Mathlib.Omega.{arith}
-use borrow.Author.Tests.{le-leb, lt-leb, leb-true, leb-false, ltb-true, ltb-false}
-use lib.Dec.{leb, ltb}
-use lib.ListN.{length, take, drop, get_or, set, length-append, length-drop, length-set, take-append-drop, drop_of_length-le}
-use lib.Seq.{length-take-le, take_all, take-take, get_or-take, take-set-lt, drop-set-lt, set_out, set_at, append_snoc, drop-cons, drop-append-le, paste, length_paste_head}
+use Rattle.std.proofs.lemmas.Slice.{between_is}
+use borrow.Author.Tests.{lt-leb}
+use lib.Seq.{take-set-lt, set_out, set_at, append_snoc, drop-append-le, paste, length_paste_head}
 use Rattle.spaces.specs.Space.{empty_space, restanding}
 use Rattle.spaces.specs.declared.space.Space.{Space}
 use Rattle.sheet.specs.Sheet.{standing, kept, no_change}
 use Rattle.sheet.specs.Changes.{appended, without_last, removed, inserted, restood, with_standing, fitted, with_changes, latest, noted}
-use Rattle.sheet.specs.Handed.{Places, OpenPlaces, behind}
+use Rattle.sheet.specs.Handed.{Open}
 use Rattle.sheet.specs.declared.changes.Change.{Change}
 use Rattle.sheet.specs.declared.changes.OpenChange.{OpenChange}
 use Rattle.sheet.specs.declared.sheet.Sheet.{Sheet}
-use Rattle.spaces.proofs.Laws.Cases.{by_test}
-use Rattle.sheet.proofs.Laws.Row.{drop_take, behind_first}
+use Rattle.sheet.proofs.Laws.Row.{behind_first}
 
 -- the sheet with other places and another count
 abbrev pub placed : List Space → ℕ → Sheet → Sheet
@@ -49,12 +42,10 @@ pub too_many : (ys : List Space) (s : Sheet) → 200 < length ys → s ≡ fitte
 unfolding fitted
 too_many ys s h = sym (ap (λ (t : Bool). cond t (with_standing ys s) s) (lt-leb _ _ h))
 
-module _ (s : Sheet) (whole : Places s) where
+-- of an open sheet, whose 200 places its type tells
+module _ (s : Sheet) (o : Open s) (full : length s.spaces ≡ 200) where
   room : s.count ≤ 200
-  room = whole.count
-
-  full : length s.spaces ≡ 200
-  full = whole.all
+  room = o.count
 
   size : length (standing s) ≡ s.count
   size = length-take-le s.count s.spaces (omega (arith, room, full))
@@ -89,7 +80,7 @@ module _ (s : Sheet) (whole : Places s) where
       let n = s.count in
       let first : take p (standing s) ≡ take p sp = take-take p n sp (omega arith) in
       let rest : drop (suc p) (standing s) ≡ take (n - (p + 1)) (drop (p + 1) sp) =
-      ap (λ (k : ℕ). drop k (standing s)) (sym (add-one p)) ∙ drop_take (p + 1) n sp in
+      ap (λ (k : ℕ). drop k (standing s)) (sym (add-one p)) ∙ sym (between_is sp (p + 1) n) in
       pasted_fits (removed p (standing s)) p (drop (p + 1) sp) (n - (p + 1)) (n - 1)
       (ap (λ (l : List Space). l ++ drop (suc p) (standing s)) first ∙ ap (λ (l : List Space). take p sp ++ l) rest)
       (omega arith)
@@ -131,7 +122,7 @@ module _ (s : Sheet) (whole : Places s) where
       let m = min-le_right p n in
       let first : take at (standing s) ≡ take at sp = take-take at n sp m in
       let rest : x ∷ drop at (standing s) ≡ take (n + 1 - at) (x ∷ drop at sp) =
-      ap (λ (l : List Space). x ∷ l) (drop_take at n sp) ∙ ap (λ (k : ℕ). take k (x ∷ drop at sp)) (next at m) in
+      ap (λ (l : List Space). x ∷ l) (sym (between_is sp at n)) ∙ ap (λ (k : ℕ). take k (x ∷ drop at sp)) (next at m) in
       pasted_fits (inserted p x (standing s)) at (x ∷ drop at sp) (n + 1 - at) (n + 1)
       (inserted_at p x ∙ ap (λ (l : List Space). l ++ x ∷ drop at (standing s)) first ∙ ap (λ (l : List Space). take at sp ++ l) rest)
       (omega arith)
@@ -141,12 +132,6 @@ module _ (s : Sheet) (whole : Places s) where
     where
       next : (at : ℕ) → at ≤ s.count → suc (s.count - at) ≡ s.count + 1 - at
       next at m = omega arith
-
-  -- a row in which the space was put in at that place
-  pub put_in : (p : ℕ) (x : Space) → s.count < 200 → (row : List Space)
-      → row ≡ paste s.spaces (min p s.count) (x ∷ drop (min p s.count) s.spaces) (s.count + 1 - min p s.count)
-      → placed row (s.count + 1) s ≡ fitted (inserted p x (standing s)) s
-  put_in p x h row e = ap (λ (r : List Space). placed r (s.count + 1) s) e ∙ place_in p x h
 
   pub place_in_too_many : (p : ℕ) (x : Space) → 200 ≤ s.count → s ≡ fitted (inserted p x (standing s)) s
   place_in_too_many p x h =
@@ -173,11 +158,8 @@ module _ (s : Sheet) (whole : Places s) where
   place_restood_beyond p standing' h = unchanged (restood p standing' (standing s)) (set_out (standing s) p _ (omega (arith, size)))
 
 -- a change noted behind those that are undoable, in the 64 places
-module _ (s : Sheet) (c : Change) (whole : OpenPlaces s) where
-  full64 : length s.changes ≡ 64
-  full64 = whole.all
-
-  noted_behind : s.undoable < 64 → with_changes (set s.changes s.undoable (kept c)) (s.undoable + 1) 0 s ≡ noted c s
+module _ (s : Sheet) (c : Change) (full64 : length s.changes ≡ 64) where
+  pub noted_behind : s.undoable < 64 → with_changes (set s.changes s.undoable (kept c)) (s.undoable + 1) 0 s ≡ noted c s
   unfolding noted
   noted_behind h =
       let n = s.undoable in
@@ -193,7 +175,7 @@ module _ (s : Sheet) (c : Change) (whole : OpenPlaces s) where
       over : {k : ℕ} → k ≡ s.undoable + 1 → k - 64 ≡ 0
       over e = omega arith
 
-  noted_full : s.undoable ≡ 64 → with_changes (set (paste s.changes 0 (drop 1 s.changes) 63) 63 (kept c)) s.undoable 0 s ≡ noted c s
+  pub noted_full : s.undoable ≡ 64 → with_changes (set (paste s.changes 0 (drop 1 s.changes) 63) 63 (kept c)) s.undoable 0 s ≡ noted c s
   unfolding noted
   noted_full h =
       let o : OpenChange = kept c in
@@ -215,16 +197,3 @@ module _ (s : Sheet) (c : Change) (whole : OpenPlaces s) where
       (ap (λ (k : ℕ). with_changes (latest cs ++ drop k ch) k 0 s) len
       ∙ ap (λ (l : List OpenChange). with_changes l 64 0 s) places
       ∙ ap (λ (k : ℕ). with_changes (set (paste ch 0 (drop 1 ch) 63) 63 o) k 0 s) (sym h))
-
-  -- either way, as the array of changes and its count have it
-  pub noted_is : with_changes (behind s.changes s.undoable (kept c)) (min (s.undoable + 1) 64) 0 s ≡ noted c s
-  noted_is =
-      by_test (ltb s.undoable 64)
-      (λ t.
-      let h = ltb-true s.undoable 64 t in
-      let m : min (s.undoable + 1) 64 ≡ s.undoable + 1 = min-eq_left (omega arith) in
-      rw (t, m) (noted_behind h))
-      (λ f.
-      let h : s.undoable ≡ 64 = omega (arith, ltb-false s.undoable 64 f, whole.count) in
-      let m : min (s.undoable + 1) 64 ≡ s.undoable = min-eq_right (omega arith) ∙ sym h in
-      rw (f, m) (noted_full h))

@@ -1,10 +1,5 @@
 -- Laws of the ends that an entry says, and of what is judged by them.
-use Prim.Native.Nat.{ℕ}
-use mathlib.Core.Path.{◌≡◌, refl, ap}
-use mathlib.Core.Bool.{Bool, true, false, ◌&&◌, ◌||◌}
-use mathlib.Core.List.{List}
-use borrow.Author.Tests.{eqb-true}
-use lib.Dec.{eqb}
+use Rattle.std.proofs.Common.{ℕ, ◌≡◌, refl, ap, Bool, true, false, ◌&&◌, ◌||◌, List, eqb-true, eqb}
 use Rattle.measure.specs.Offsets.{measured}
 use Rattle.measure.specs.Ends.{ends_of, end_areas}
 use Rattle.measure.proofs.Laws.Ends.{ends_accepted}

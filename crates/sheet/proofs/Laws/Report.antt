@@ -1,16 +1,11 @@
 -- What a report tells of the sheet: where it is given, and where none of 1, 2, 13 and 14 refuses it.
-use Prim.Native.Nat.{ℕ, ◌≤◌}
-use mathlib.Core.Path.{◌≡◌, sym, ap, ◌∙◌}
-use mathlib.Core.Bool.{Bool, true, false, cond, not}
-use mathlib.Core.List.{List, [], ◌∷◌}
-use native.Mathlib.Omega.{arith}
-use borrow.Author.Tests.{not-false, eq-eqb, ltb-false}
-use lib.Dec.{eqb, ltb}
+use Rattle.std.proofs.Common.{ℕ, ◌≤◌, ◌≡◌, sym, ap, ◌∙◌, Bool, true, false, cond, not, List, [], ◌∷◌, arith, eq-eqb, ltb-false, eqb, ltb}
+use borrow.Author.Tests.{not-false}
 use Rattle.measure.specs.Refusals.{first_of}
 use Rattle.measure.proofs.Laws.Refusals.{Numbered, spliced}
 use Rattle.spaces.proofs.Laws.Cases.{by_test}
 use Rattle.standard.specs.Gross.{gross, net, deductions_pass}
-use Rattle.sheet.specs.Sheet.{standing, usable, length_of, vessel_of, standing_count, places_of}
+use Rattle.sheet.specs.Sheet.{standing, usable, length_of, vessel_of, standing_of, standing_count}
 use Rattle.sheet.specs.Calls.{lengths_short, ballast_unjustified, tests_to14, deductions_test, report_number, reported, figures_of}
 use Rattle.sheet.specs.declared.sheet.Sheet.{Sheet}
 use Rattle.sheet.specs.declared.calls.Reported.{Reported}
@@ -104,9 +99,9 @@ figures_past_14 s justified r e z =
 pub record HandedOut (s : Sheet) : Type 0 where
   pub length_is : length_of s ≡ s.length
   pub vessel_is : vessel_of s ≡ s.vessel
+  pub standing_are : standing_of s ≡ standing s
   pub count_is : standing_count s ≡ s.count
-  pub places_are : places_of s ≡ s.spaces
 
 pub handed_out : (s : Sheet) → usable s ≡ true → HandedOut s
-unfolding length_of vessel_of standing_count places_of
-handed_out s e = record { length_is = rw e; vessel_is = rw e; count_is = rw e; places_are = rw e }
+unfolding length_of vessel_of standing_of standing_count
+handed_out s e = record { length_is = rw e; vessel_is = rw e; standing_are = rw e; count_is = rw e }

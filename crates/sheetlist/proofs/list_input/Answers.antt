@@ -1,5 +1,5 @@
 -- What was read has the text of the whole input: it is the whole, or too long as the whole is. What is written is that text.
-use Rattle.std.proofs.Common.{inl, inr, ◌≡◌, ℕ, ◌<◌, ◌≤◌, List, ◌++◌, None, Some, Result, Ok, Err, OnOk, IfSome, arith, length, take, sym, ap, ◌∙◌, subst, append-nil, length-append, length-take-le}
+use Rattle.std.proofs.Common.{inl, inr, ◌≡◌, ℕ, ◌<◌, ◌≤◌, List, ◌++◌, None, Some, Result, Ok, Err, OnOk, IfSome, arith, rules, length, take, sym, ap, ◌∙◌, subst, append-nil, length-append, length-take-le}
 use Rattle.std.proofs.Math.Nat.{eq-or-lt_of_le}
 use Rattle.std.proofs.Math.Seq.{take-append_seam}
 use Rattle.std.specs.declared.option.Option.{Option}
@@ -31,8 +31,9 @@ written (Some file) None old new (Ok x) front text fits read whole is put = absu
 written (Some file) (Some left) old new (Ok x) front text fits read whole is put =
     subst (Appends old new) (is ∙ front_text file front left fits read whole) put
 
-pub slice_bounds-text-end : goal.slice_bounds-text-end
-slice_bounds-text-end g c = size_inside _ _ c.list-listing.ensures
+pub shared_ref_as_front-write_all : goal.shared_ref_as_front-write_all
+shared_ref_as_front-write_all g c =
+    let room : length c.list-listing.result.text ≡ 8192 = search rules in omega (arith, room, size_inside _ _ c.list-listing.ensures)
 
 pub slice_bounds-write_all-end : goal.slice_bounds-write_all-end
 slice_bounds-write_all-end g c = sym (length-take-le _ _ (size_inside _ _ c.list-listing.ensures))

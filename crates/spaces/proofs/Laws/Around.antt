@@ -1,28 +1,23 @@
--- What is around each of some records, by places and running sums; and the row of it, one record more. Stands on Places, Climb.
-use Prim.Native.Nat.{ℕ, zero, suc, ◌+◌, ◌-◌, ◌*◌, ◌^◌, ◌≤◌, ◌<◌, min}
-use mathlib.Core.Path.{◌≡◌, refl, sym, ap, ap₂, ◌∙◌, subst}
-use mathlib.Core.Bool.{cond}
-use mathlib.Core.List.{List, [], ◌∷◌, ◌++◌, append-nil}
+-- What is around each of some records, by places and running sums; and the row of it, one record more. Stands on Places, Before.
+use Rattle.std.proofs.Common.{ℕ, zero, suc, ◌+◌, ◌-◌, ◌*◌, ◌^◌, ◌≤◌, ◌<◌, min, ◌≡◌, refl, sym, ap, ap₂, ◌∙◌, subst, cond, List, [], ◌∷◌, ◌++◌, append-nil, arith, eqb-true, ltb-true, ltb-false, lt-ltb, le-ltb, eqb, ltb, length, take, get_or, set, replicate, length-set, length-take-le, get_or-set_same, get_or-set_other, take_all}
 use native.Mathlib.Nat.{min-eq_left, min-eq_right}
-use native.Mathlib.Omega.{arith}
-use borrow.Author.Tests.{eqb-true, eqb-false, ltb-true, ltb-false, lt-ltb, le-ltb}
-use lib.Dec.{eqb, ltb}
-use lib.ListN.{length, take, get_or, set, replicate, length-set, length-replicate, get_or-replicate, get_or-append}
-use lib.Seq.{length-take-le, get_or-set_same, get_or-set_other, append_snoc, take_all}
+use borrow.Author.Tests.{eqb-false}
+use lib.ListN.{length-replicate, get_or-replicate, get_or-append}
+use lib.Seq.{append_snoc}
 use Rattle.measure.proofs.Laws.Lists.{filled_more}
 use Rattle.spaces.specs.Space.{empty_space, is_room}
 use Rattle.spaces.specs.Row.{place_of, stands, amount_of, sum_of}
-use Rattle.spaces.specs.Enclosure.{above, walked}
+use Rattle.spaces.specs.Enclosure.{upward, above, walked}
 use Rattle.spaces.specs.Around.{enclosing_place, beside_of, around_of, around_from, blank_around, each_around}
-use Rattle.spaces.specs.Handed.{climbed, Charted}
 use Rattle.spaces.specs.declared.space.Space.{Space}
 use Rattle.spaces.specs.declared.sums.Amount.{Amount}
 use Rattle.spaces.specs.declared.sums.Amount.TheVariants.{Inside, Lengths}
+use Rattle.spaces.specs.declared.enclosure.Above.{Above}
 use Rattle.spaces.specs.declared.around.Around.{Around}
 use Rattle.spaces.proofs.Laws.Cases.{by_test}
 use Rattle.spaces.proofs.Laws.Row.{one_passed, sum_append}
 use Rattle.spaces.proofs.Laws.Places.{one_id_at, place_bounded}
-use Rattle.spaces.proofs.Laws.Climb.{stands_before, place_before, climbed_walk, standing_there}
+use Rattle.spaces.proofs.Laws.Before.{stands_before, place_before}
 
 -- ---- running sums: the rooms inside each place, and the lengths of all U, of the first i
 
@@ -56,8 +51,11 @@ module _ (xs : List Space) (i : ℕ) (inside : List ℕ) (lengths : ℕ) (s : Su
   abbrev home : ℕ
   home = enclosing_place xs x
 
+  abbrev weight : ℕ
+  weight = amount_of (Inside x.within) x
+
   abbrev after : List ℕ
-  after = set inside home (get_or inside home 0 + x.tonnage)
+  after = set inside home (get_or inside home 0 + weight)
 
   home_bounded : home < 201
   home_bounded = by_test (is_room x) (λ r. rw r (omega (arith, place_bounded x.within xs))) (λ r. rw r (omega arith))
@@ -65,11 +63,11 @@ module _ (xs : List Space) (i : ℕ) (inside : List ℕ) (lengths : ℕ) (s : Su
   other_place : (w : ℕ) → (place_of w xs ≡ home → ⊥) → place_of w xs < length xs → get_or after (place_of w xs) 0 ≡ sum_of (Inside w) (take i xs)
   other_place w ne l = get_or-set_other inside home (place_of w xs) _ 0 ne ∙ s.rooms w l
 
-  same_place : (w : ℕ) → place_of w xs ≡ home → place_of w xs < length xs → get_or after (place_of w xs) 0 ≡ sum_of (Inside w) (take i xs) + x.tonnage
+  same_place : (w : ℕ) → place_of w xs ≡ home → place_of w xs < length xs → get_or after (place_of w xs) 0 ≡ sum_of (Inside w) (take i xs) + weight
   same_place w e l =
       ap (λ (p : ℕ). get_or after p 0) e
       ∙ get_or-set_same inside home _ 0 (omega (arith, home_bounded, s.size))
-      ∙ ap (λ (n : ℕ). n + x.tonnage) (ap (λ (p : ℕ). get_or inside p 0) (sym e) ∙ s.rooms w l)
+      ∙ ap (λ (n : ℕ). n + weight) (ap (λ (p : ℕ). get_or inside p 0) (sym e) ∙ s.rooms w l)
 
   rooms_after : (w : ℕ) → place_of w xs < length xs → get_or after (place_of w xs) 0 ≡ sum_of (Inside w) (take i xs) + amount_of (Inside w) x
   rooms_after w l =
@@ -77,102 +75,91 @@ module _ (xs : List Space) (i : ℕ) (inside : List ℕ) (lengths : ℕ) (s : Su
       (λ r.
       let there : home ≡ place_of x.within xs = rw r in
       by_test (eqb x.within w)
-      (λ t. same_place w (ap (λ (v : ℕ). place_of v xs) (sym (eqb-true _ _ t)) ∙ sym there) l ∙ rw (r, t))
+      (λ t.
+      let named = eqb-true _ _ t in
+      same_place w (ap (λ (v : ℕ). place_of v xs) (sym named) ∙ sym there) l ∙ ap (λ (v : ℕ). sum_of (Inside w) (take i xs) + amount_of (Inside v) x) named)
       (λ f. other_place w (λ q. eqb-false _ _ f (sym (one_id_at w x.within xs l (q ∙ there)))) l ∙ rw (r, f) (omega arith)))
       (λ r.
       let nowhere : home ≡ length xs = rw r in
       other_place w (λ q. omega arith) l ∙ rw r (omega arith))
 
-  summed_after : x.tonnage < 2 ^ 32 → amount_of Lengths x < 2 ^ 32 → Summed xs (i + 1) after (lengths + amount_of Lengths x)
-  summed_after tons long =
+  -- as the code has its place and what it adds
+  pub one_summed : (p : ℕ) → p ≡ home → (tons : ℕ) → tons ≡ weight → (long : ℕ) → long ≡ amount_of Lengths x → tons < 2 ^ 32 → long < 2 ^ 32
+      → Summed xs (i + 1) (set inside p (get_or inside p 0 + tons)) (lengths + long)
+  one_summed p there tons weighs long is light short =
+      let row : after ≡ set inside p (get_or inside p 0 + tons) = ap₂ (λ (q t : ℕ). set inside q (get_or inside q 0 + t)) (sym there) (sym weighs) in
+      subst (λ (r : List ℕ). Summed xs (i + 1) r (lengths + long)) row
       record {
         size = length-set inside home _ ∙ s.size;
         rooms = λ w l. rooms_after w l ∙ sym (sum_more (Inside w) xs i h);
-        decks = ap (λ (n : ℕ). n + amount_of Lengths x) s.decks ∙ sym (sum_more Lengths xs i h);
-        rooms_bounded = λ p l.
-            by_test (eqb p home)
+        decks = ap₂ (λ (m n : ℕ). m + n) s.decks is ∙ sym (sum_more Lengths xs i h);
+        rooms_bounded = λ q l.
+            by_test (eqb q home)
             (λ t.
-            let same = ap (λ (q : ℕ). get_or after q 0) (eqb-true p home t) ∙ get_or-set_same inside home _ 0 (omega (arith, home_bounded, s.size)) in
+            let same = ap (λ (r : ℕ). get_or after r 0) (eqb-true q home t) ∙ get_or-set_same inside home _ 0 (omega (arith, home_bounded, s.size)) in
             omega (arith, same, s.rooms_bounded home home_bounded))
-            (λ f. omega (arith, get_or-set_other inside home p (get_or inside home 0 + x.tonnage) 0 (eqb-false p home f), s.rooms_bounded p l));
+            (λ f. omega (arith, get_or-set_other inside home q (get_or inside home 0 + weight) 0 (eqb-false q home f), s.rooms_bounded q l));
         decks_bounded = omega (arith, s.decks_bounded);
       }
 
-  -- as the code has the record, its place and its length
-  pub one_summed : (y : Space) → y ≡ x → (p : ℕ) → p ≡ home → (long : ℕ) → long ≡ amount_of Lengths y → y.tonnage < 2 ^ 32 → long < 2 ^ 32
-      → Summed xs (i + 1) (set inside p (get_or inside p 0 + y.tonnage)) (lengths + long)
-  one_summed y same p there long is tons short =
-      let adds : long ≡ amount_of Lengths x = is ∙ ap (amount_of Lengths) same in
-      let weighs : y.tonnage ≡ x.tonnage = ap (λ (z : Space). z.tonnage) same in
-      let row = ap₂ (λ (q t : ℕ). set inside q (get_or inside q 0 + t)) (sym there) (sym weighs) in
-      subst (λ (r : List ℕ). Summed xs (i + 1) r (lengths + long)) row
-      (subst (λ (n : ℕ). Summed xs (i + 1) after (lengths + n)) (sym adds) (summed_after (omega arith) (omega arith)))
+-- ---- what is around the record at i, as the code has it: by its home, the place at which its id stands first, and what a climb met
 
--- ---- what is around the record at i
-
-module _ (records : List Space) (n : ℕ) (homes owns standings : List ℕ) (charted : Charted records n homes owns standings) (i : ℕ) (h : i < length (take n records)) where
-  abbrev xs : List Space
-  xs = take n records
-
+module _ (xs : List Space) (i : ℕ) (h : i < length xs) where
   abbrev the_record : Space
   the_record = get_or xs i empty_space
 
-  abbrev its_home : ℕ
-  its_home = get_or homes i 0
+  module _ (home own : ℕ) (up : Above) (home_of : home ≡ enclosing_place xs the_record) (own_of : own ≡ place_of the_record.id xs)
+      (met : up ≡ walked (upward 8 (take i xs) the_record)) where
+    home_is : min home i ≡ enclosing_place (take i xs) the_record
+    home_is = ap (λ (p : ℕ). min p i) home_of ∙ sym (place_before the_record xs i (omega arith))
 
-  home_is : min its_home i ≡ enclosing_place (take i xs) the_record
-  home_is = ap (λ (p : ℕ). min p i) (charted.home_of i h) ∙ sym (place_before the_record xs i (omega arith))
+    taken_is : ltb own i ≡ stands the_record.id (take i xs)
+    taken_is = ap (λ (p : ℕ). ltb p i) own_of ∙ sym (stands_before the_record.id xs i (omega arith))
 
-  taken_is : ltb (get_or owns i 0) i ≡ stands the_record.id (take i xs)
-  taken_is = ap (λ (p : ℕ). ltb p i) (charted.own_of i h) ∙ sym (stands_before the_record.id xs i (omega arith))
+    above_is : up ≡ walked (above (take i xs) the_record)
+    unfolding above
+    above_is = met
 
-  pub met : climbed 8 i homes standings i ≡ walked (above (take i xs) the_record)
-  unfolding above
-  met =
-      climbed_walk xs homes standings charted.home_of
-      (λ p l. ap (λ (row : List ℕ). get_or row p 0) charted.standing_of ∙ standing_there records n p l)
-      i (omega arith) 8 i h
-
-  -- a record is enclosed among those before it where its home is before it, and is a room then
-  enclosed_by : ltb its_home i ≡ ltb (enclosing_place (take i xs) the_record) (length (take i xs))
-  enclosed_by =
-      let size = length-take-le i xs (omega arith) in
-      let place = enclosing_place (take i xs) the_record in
-      by_test (ltb its_home i)
-      (λ t.
-      let low = ltb-true its_home i t in
-      let same : min its_home i ≡ its_home = min-eq_left (omega arith) in
-      t ∙ sym (lt-ltb place (length (take i xs)) (omega (arith, size, home_is))))
-      (λ f.
-      let high = ltb-false its_home i f in
-      let same : min its_home i ≡ i = min-eq_right (omega arith) in
-      f ∙ sym (le-ltb place (length (take i xs)) (omega (arith, size, home_is))))
-
-  home_of_room : its_home < i → its_home ≡ place_of the_record.within xs
-  home_of_room low =
-      by_test (is_room the_record)
-      (λ r. charted.home_of i h ∙ rw r)
-      (λ r. let far : its_home ≡ length xs = charted.home_of i h ∙ rw r in absurd (omega arith))
-
-  module _ (inside : List ℕ) (lengths : ℕ) (s : Summed xs i inside lengths) where
-    beside_is : cond (ltb its_home i) (get_or inside its_home 0) lengths ≡ beside_of (enclosing_place (take i xs) the_record) (take i xs) the_record
-    beside_is =
-        by_test (ltb its_home i)
+    -- a record is enclosed among those before it where its home is before it, and is a room then
+    enclosed_by : ltb home i ≡ ltb (enclosing_place (take i xs) the_record) (length (take i xs))
+    enclosed_by =
+        let size = length-take-le i xs (omega arith) in
+        let place = enclosing_place (take i xs) the_record in
+        by_test (ltb home i)
         (λ t.
-        let low = ltb-true its_home i t in
-        let place = home_of_room low in
-        rw (t, sym enclosed_by ∙ t) (ap (λ (p : ℕ). get_or inside p 0) place ∙ s.rooms the_record.within (omega arith)))
-        (λ f. rw (f, sym enclosed_by ∙ f) s.decks)
+        let low = ltb-true home i t in
+        let same : min home i ≡ home = min-eq_left (omega arith) in
+        t ∙ sym (lt-ltb place (length (take i xs)) (omega (arith, size, home_is))))
+        (λ f.
+        let high = ltb-false home i f in
+        let same : min home i ≡ i = min-eq_right (omega arith) in
+        f ∙ sym (le-ltb place (length (take i xs)) (omega (arith, size, home_is))))
 
-    pub gathered : record {
-      taken = ltb (get_or owns i 0) i;
-      home = min its_home i;
-      levels = (climbed 8 i homes standings i).levels;
-      plain = (climbed 8 i homes standings i).plain;
-      beside = cond (ltb its_home i) (get_or inside its_home 0) lengths;
-    } ≡ around_of (take i xs) the_record
-    unfolding around_of
-    gathered = rw (taken_is, home_is, met, beside_is)
+    home_of_room : home < i → home ≡ place_of the_record.within xs
+    home_of_room low =
+        by_test (is_room the_record)
+        (λ r. home_of ∙ rw r)
+        (λ r. let far : home ≡ length xs = home_of ∙ rw r in absurd (omega arith))
+
+    module _ (inside : List ℕ) (lengths : ℕ) (s : Summed xs i inside lengths) where
+      beside_is : cond (ltb home i) (get_or inside home 0) lengths ≡ beside_of (enclosing_place (take i xs) the_record) (take i xs) the_record
+      beside_is =
+          by_test (ltb home i)
+          (λ t.
+          let low = ltb-true home i t in
+          let place = home_of_room low in
+          rw (t, sym enclosed_by ∙ t) (ap (λ (p : ℕ). get_or inside p 0) place ∙ s.rooms the_record.within (omega arith)))
+          (λ f. rw (f, sym enclosed_by ∙ f) s.decks)
+
+      pub gathered : record {
+        taken = ltb own i;
+        home = min home i;
+        levels = up.levels;
+        plain = up.plain;
+        beside = cond (ltb home i) (get_or inside home 0) lengths;
+      } ≡ around_of (take i xs) the_record
+      unfolding around_of
+      gathered = rw (taken_is, home_is, above_is, beside_is)
 
 -- ---- the row of it
 

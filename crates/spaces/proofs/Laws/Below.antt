@@ -1,11 +1,5 @@
 -- Nothing is below a space with no room directly inside. Stands on Places.
-use Prim.Native.Nat.{ℕ, zero, suc, ◌+◌}
-use mathlib.Core.Path.{◌≡◌, refl, ap, ◌∙◌, subst}
-use mathlib.Core.Bool.{Bool, true, false, ◌&&◌}
-use mathlib.Core.List.{List, [], ◌∷◌}
-use mathlib.Core.Option.{some}
-use native.Mathlib.Omega.{arith}
-use lib.Dec.{eqb}
+use Rattle.std.proofs.Common.{ℕ, zero, suc, ◌+◌, ◌≡◌, refl, ap, ◌∙◌, subst, Bool, true, false, ◌&&◌, List, [], ◌∷◌, Some, arith, eqb}
 use Rattle.spaces.specs.Space.{is_room}
 use Rattle.spaces.specs.Row.{find, only, sum_of}
 use Rattle.spaces.specs.Enclosure.{upward, above, among, below_of, below}
@@ -23,7 +17,7 @@ not_inside true true others h r = absurd (omega arith)
 not_inside true false others h r = refl
 not_inside false i others h r = not_both r refl
 
-no_room_in : (id : ℕ) (ys : List Space) → sum_of (Rooms id) ys ≡ 0 → (w : ℕ) {z : Space} → find w ys ≡ some z → NoRoomIn id z
+no_room_in : (id : ℕ) (ys : List Space) → sum_of (Rooms id) ys ≡ 0 → (w : ℕ) {z : Space} → find w ys ≡ Some z → NoRoomIn id z
 no_room_in id [] none w e = none_not_some refl e
 no_room_in id (y ∷ ys) none w {z} e =
     by_test (eqb y.id w)

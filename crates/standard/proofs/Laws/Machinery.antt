@@ -1,7 +1,6 @@
 -- The deduction for machinery in each of its three classes.
-use Prim.Native.Nat.{ℕ, ◌*◌, ◌≤◌, ◌<◌, max}
-use mathlib.Core.Path.{◌≡◌}
-use borrow.Author.Tests.{le-leb, lt-leb, lt-ltb, le-ltb}
+use Rattle.std.proofs.Common.{ℕ, ◌*◌, ◌≤◌, ◌<◌, max, ◌≡◌, le-leb, lt-ltb, le-ltb}
+use borrow.Author.Tests.{lt-leb}
 use Rattle.standard.specs.Machinery.{thirty_two_thirteenths, thirty_two_percent, seven_quarters, engine_room_deduction}
 
 pub in_first_class : (m gross : ℕ) → 100 * m ≤ 13 * gross → engine_room_deduction m gross ≡ thirty_two_thirteenths m
@@ -16,3 +15,5 @@ pub in_third_class : (m gross : ℕ) → 13 * gross < 100 * m → 20 * gross ≤
     → engine_room_deduction m gross ≡ max (thirty_two_percent gross) (seven_quarters m)
 unfolding engine_room_deduction
 in_third_class m gross l h = rw (lt-leb (100 * m) (13 * gross) l, lt-ltb (13 * gross) (100 * m) l, le-ltb (100 * m) (20 * gross) h)
+
+pub ruleset classes = (in_first_class, in_second_class, in_third_class)

@@ -1,13 +1,6 @@
 -- Records judged one after another: one passed, one refused, and the end; and the number of one, by what is around it.
-use Prim.Native.Nat.{ℕ, ◌+◌, ◌≤◌, ◌<◌}
-use mathlib.Core.Path.{◌≡◌, sym, ap, ◌∙◌}
-use mathlib.Core.Bool.{false, cond}
-use mathlib.Core.List.{List}
-use mathlib.Core.Option.{Option}
-use native.Mathlib.Omega.{arith}
-use borrow.Author.Tests.{eq-eqb, ne_eqb, lt-leb}
-use lib.ListN.{length, take, drop, get_or, drop_of_length-le}
-use lib.Seq.{length-take-le}
+use Rattle.std.proofs.Common.{ℕ, ◌+◌, ◌≤◌, ◌<◌, ◌≡◌, sym, ap, ◌∙◌, false, cond, List, Option, slice_get, arith, eq-eqb, ne_eqb, length, take, drop, get_or, drop_of_length-le, length-take-le}
+use borrow.Author.Tests.{lt-leb}
 use Rattle.measure.specs.declared.units.Hundredths.{Hundredths}
 use Rattle.spaces.specs.Space.{empty_space}
 use Rattle.spaces.specs.Around.{around_of}
@@ -18,7 +11,7 @@ use Rattle.spaces.proofs.Laws.Row.{one_ahead, one_passed}
 use Rattle.standard.specs.Rules.{entry_number}
 use Rattle.standard.specs.Records.{misrecorded, record_number, first_refused}
 use Rattle.standard.specs.Handed.{entry_number_by}
-use Rattle.standard.proofs.Laws.Judged.{enclosed_at, home_encloses, entry_is}
+use Rattle.standard.proofs.Laws.Judged.{home_encloses, entry_is}
 
 module _ (L : Hundredths) (xs : List Space) (i : ℕ) where
   pub record_passed : i < length xs → record_number L (take i xs) (get_or xs i empty_space) ≡ 0
@@ -38,14 +31,11 @@ module _ (L : Hundredths) (xs : List Space) (i : ℕ) where
 
 -- ---- the number of a record after fewer than 200
 
-pub record_number_is : (L : Hundredths) (xs : List Space) (x : Space) (o : Option Space) (a : Around) → a ≡ around_of xs x → o ≡ enclosed_at a.home xs
+pub record_number_is : (L : Hundredths) (xs : List Space) (x : Space) (o : Option Space) (a : Around) → a ≡ around_of xs x → o ≡ slice_get xs a.home
     → length xs < 200
-    → (y : Space) → y ≡ x → (r : ℕ) → r ≡ cond (misrecorded y) 2 (entry_number_by L y o a false) → r ≡ record_number L xs x
+    → (r : ℕ) → r ≡ cond (misrecorded x) 2 (entry_number_by L x o a false) → r ≡ record_number L xs x
 unfolding record_number entry_number
-record_number_is L xs x o a around found few y same r e =
+record_number_is L xs x o a around found few r e =
     let number : entry_number_by L x o a false ≡ entry_number L xs x =
     entry_is L xs x o a false (found ∙ home_encloses xs x a around) around (sym (lt-leb 200 (length xs) few)) in
-    e
-    ∙ ap (λ (z : Space). cond (misrecorded z) 2 (entry_number_by L z o a false)) same
-    ∙ ap (λ (n : ℕ). cond (misrecorded x) 2 n) number
-    ∙ by_test (misrecorded x) (λ t. rw t) (λ f. rw f)
+    e ∙ ap (λ (n : ℕ). cond (misrecorded x) 2 n) number ∙ by_test (misrecorded x) (λ t. rw t) (λ f. rw f)

@@ -1,9 +1,6 @@
 -- The table of standings: nothing outside its five rows and five columns.
-use mathlib.Core.Path.{◌≡◌, refl, ap, ◌∙◌}
-use mathlib.Core.Bool.{false}
-use Prim.Native.Nat.{ℕ, zero, suc, ◌-◌, ◌<◌}
-use native.Mathlib.Omega.{arith}
-use Rattle.standard.specs.Standings.{may_take}
+use Rattle.std.proofs.Common.{◌≡◌, refl, ap, ◌∙◌, false, ℕ, zero, suc, ◌-◌, ◌<◌, arith, get_or, []}
+use Rattle.standard.specs.Standings.{standings, may_take}
 
 no_row : (k standing : ℕ) → may_take (suc (suc (suc (suc (suc (suc k)))))) standing ≡ false
 unfolding may_take
@@ -19,6 +16,11 @@ no_column (suc (suc (suc (suc zero)))) s = refl
 no_column (suc (suc (suc (suc (suc zero))))) s = refl
 no_column (suc (suc (suc (suc (suc (suc k)))))) s = refl
 
+pub kind_below : (kind standing : ℕ) → kind < 1 → may_take kind standing ≡ false
+unfolding may_take
+kind_below zero standing h = refl
+kind_below (suc kind) standing h = absurd (omega arith)
+
 pub kind_outside : (kind standing : ℕ) → 5 < kind → may_take kind standing ≡ false
 kind_outside kind standing h =
     let e : kind ≡ suc (suc (suc (suc (suc (suc (kind - 6)))))) = omega arith in
@@ -28,3 +30,11 @@ pub standing_outside : (kind standing : ℕ) → 4 < standing → may_take kind 
 standing_outside kind standing h =
     let e : standing ≡ suc (suc (suc (suc (suc (standing - 5))))) = omega arith in
     ap (may_take kind) e ∙ no_column kind (standing - 5)
+
+pub may_take_in : (kind standing : ℕ) → 0 < kind → may_take kind standing ≡ get_or (get_or standings (kind - 1) []) standing false
+unfolding may_take
+may_take_in zero standing h = absurd (omega arith)
+may_take_in (suc kind) standing h = let e : kind ≡ suc kind - 1 = omega arith in ap (λ (k : ℕ). get_or (get_or standings k []) standing false) e
+
+-- all that the table says
+pub ruleset table = (may_take_in, kind_below, kind_outside, standing_outside)

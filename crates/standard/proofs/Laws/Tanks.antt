@@ -1,30 +1,18 @@
 -- A tank judged by what is around it and by its U is judged as the definition has it.
-use Prim.Native.Nat.{ℕ}
-use mathlib.Core.Path.{◌≡◌, refl, ap, ◌∙◌}
-use mathlib.Core.Bool.{not, ◌&&◌, ◌||◌}
-use mathlib.Core.List.{List, [], ◌∷◌}
-use mathlib.Core.Option.{Option, none, some}
-use native.Mathlib.Omega.{arith}
-use lib.Dec.{eqb}
+use Rattle.std.proofs.Common.{ℕ, ◌≡◌, ap, ◌∙◌, not, ◌&&◌, ◌||◌, List, [], ◌∷◌, Option, arith, eqb}
 use Rattle.measure.specs.Refusals.{first_of}
 use Rattle.measure.specs.declared.units.Hundredths.{Hundredths}
 use Rattle.measure.proofs.Laws.Refusals.{spliced}
-use Rattle.spaces.specs.Row.{found_as}
 use Rattle.spaces.specs.declared.space.Space.{Space}
 use Rattle.standard.specs.Rules.{tests_of}
 use Rattle.standard.specs.Tanks.{in_no_under_deck, past_end, measurable_in, without_m, tank_number}
-use Rattle.standard.specs.Handed.{searched, overfull_by, misplaced_by, judged_number, SeenAs}
+use Rattle.standard.specs.Handed.{overfull_by, misplaced_by, judged_number, SeenAs}
 use Rattle.standard.specs.declared.rules.Seen.{Seen}
 use Rattle.standard.proofs.Laws.Judged.{judged_is, overfull_is, misplaced_is}
 
--- a search as the code hands it on is the search
-pub found_again : (o : Option Space) → searched (found_as o) ≡ o
-found_again none = refl
-found_again (some z) = refl
-
 module _ (L : Hundredths) (xs : List Space) (x : Space) (f : Hundredths) (r : Seen) (is : SeenAs xs x r) where
   abbrev o : Option Space
-  o = searched r.found
+  o = r.found
 
   -- as the code has it: the number of the tests of 4 to 10, by the space that encloses
   abbrev number_by : ℕ

@@ -1,14 +1,8 @@
--- `put_number` meets its contract: the bytes still to store, from the place reached, give what all of them give.
-use Prim.Native.Nat.{◌+◌, ◌-◌, ◌≤◌}
-use mathlib.Core.Path.{◌≡◌}
-use lib.ListN.{length}
-use lib.Seq.{sets}
+-- `put_number` meets its contract: the bytes written, and those still to write, are those of the number.
+use Rattle.std.proofs.Common.{◌≡◌, ◌++◌, ◌-◌, length, take}
 use Rattle.dayfile.specs.Numbers.{bytes_of}
 use Rattle.dayfile.proofs.numbers.put_number.Given as goal
 
-abbrev pub invariant-loop-i : goal.invariant-loop-i
-invariant-loop-i l =
-    (l.i ≤ l.width) × (length l.buf ≡ length l.initial.buf) × (sets l.buf (l.at + l.i) (bytes_of (l.width - l.i) l.rest) ≡ sets l.initial.buf l.at (bytes_of l.width l.number))
-
-abbrev pub decreases-loop-i : goal.decreases-loop-i
-decreases-loop-i l = l.width - l.i
+abbrev pub invariant-loop-byte : goal.invariant-loop-byte
+invariant-loop-byte l =
+    take l.byte-index l.field ++ bytes_of (length l.initial.field - l.byte-index) l.rest ≡ bytes_of (length l.initial.field) l.number

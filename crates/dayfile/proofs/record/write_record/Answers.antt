@@ -1,18 +1,13 @@
 -- `write_record` meets its contract: its widths are those of the form.
-use Prim.Native.Nat.{ℕ}
-use mathlib.Core.Path.{refl, ap, ◌∙◌}
-use mathlib.Core.List.{List}
+use Rattle.std.proofs.Common.{ℕ, ◌≡◌, ap₂, ◌∙◌, List, [], ◌∷◌}
 use lib.Seq.{sets}
 use Rattle.dayfile.specs.Fields.{encoded}
 use Rattle.dayfile.specs.Record.{numbers_of}
 use Rattle.dayfile.proofs.record.write_record.Goals as goal
 
-pub put_fields-requires : goal.put_fields-requires
-put_fields-requires c =
-    rw c.record_widths-widths.ensures (refl, c.requires)
-
 pub returns : goal.returns
 returns c =
     let a = c.args in
+    let numbers : (c.from.result ∷ c.from-2.result ∷ c.from-3.result ∷ c.from-4.result ∷ 0 ∷ c.from-5.result ∷ c.from-6.result ∷ c.from-7.result ∷ 0 ∷ []) ≡ numbers_of a.x = cc in
     c.put_fields.ensures
-    ∙ ap (λ (widths : List ℕ). sets a.buf.now 0 (encoded widths (numbers_of a.x))) c.record_widths-widths.ensures
+    ∙ ap₂ (λ (widths numbers : List ℕ). sets a.buf.now 0 (encoded widths numbers)) c.record_widths.ensures numbers

@@ -1,15 +1,6 @@
 -- `writing::store` meets its contract: refused for a number lost, for room or for deductions that pass gross; else the records are stored,
 -- and what stands behind them.
-use Prim.Native.Nat.{ℕ, ◌+◌, ◌*◌, ◌-◌, ◌≤◌}
-use mathlib.Core.Path.{◌≡◌, refl, sym, ap, ◌∙◌}
-use mathlib.Core.Bool.{Bool, true, false, ◌||◌}
-use mathlib.Core.List.{List}
-use native.Mathlib.Nat.{le_trans, mul-le-mul_left, mul-le-mul_right}
-use native.Mathlib.Omega.{arith}
-use borrow.Author.Tests.{ltb-false}
-use lib.Dec.{ltb}
-use lib.ListN.{length, take, length-take, length-drop}
-use lib.Seq.{length-take-le}
+use Rattle.std.proofs.Common.{ℕ, ◌+◌, ◌*◌, ◌-◌, ◌≤◌, ◌≡◌, refl, sym, ap, ◌∙◌, Bool, true, false, ◌||◌, List, le_trans, mul-le-mul_left, mul-le-mul_right, arith, ltb-false, ltb, length, length-take, length-drop, rules}
 use Rattle.spaces.specs.declared.space.Space.{Space}
 use Rattle.dayfile.specs.Forms.{form_of, lost}
 use Rattle.dayfile.specs.Record.{record_size}
@@ -19,7 +10,6 @@ use Rattle.dayfile.specs.Handed.{most_record}
 use Rattle.dayfile.specs.declared.forms.Form.{Form}
 use Rattle.dayfile.specs.declared.trailer.Trailer.{Trailer}
 use Rattle.dayfile.proofs.Laws.Writing.{loses, no_room, over_gross, stored_whole}
-use Rattle.std.proofs.Common.{rules}
 use Rattle.dayfile.proofs.writing.store.Goals.{After-too_little_room-short}
 use Rattle.dayfile.proofs.writing.store.Goals as goal
 
@@ -51,7 +41,7 @@ module _ (c : After-too_little_room-short) where
   vessel = c.args.vessel
 
   abbrev row : List Space
-  row = c.args.spaces
+  row = c.args.spaces.now
 
   abbrev at : ℕ
   at = c.args.at
@@ -59,23 +49,19 @@ module _ (c : After-too_little_room-short) where
   abbrev buffer : List ℕ
   buffer = c.args.buf.now
 
-  -- the spaces that the trailer counts
-  abbrev xs : List Space
-  xs = take t.count row
-
   few : t.count ≤ 200
-  few = c.requires
+  few = c.requires.0
 
-  full : length c.args.spaces ≡ 200
-  full = search rules
+  full : length row ≡ t.count
+  full = c.requires.1
 
   form_is : c.form_of-form.result ≡ form_of t.form
   form_is = c.form_of-form.ensures
 
-  loses_is : c.loses_number-loses.result ≡ (lost (form_of t.form).vessel vessel || loses_deck (form_of t.form) xs)
+  loses_is : c.loses_number-loses.result ≡ (lost (form_of t.form).vessel vessel || loses_deck (form_of t.form) row)
   loses_is =
       c.loses_number-loses.ensures
-      ∙ ap (λ (f : Form). lost f.vessel vessel || loses_deck f xs) form_is
+      ∙ ap (λ (f : Form). lost f.vessel vessel || loses_deck f row) form_is
 
   size_is : c.sheet_size-size.result ≡ sheet_size (form_of t.form) t.count
   size_is = c.sheet_size-size.ensures ∙ ap (λ (f : Form). sheet_size f t.count) form_is
@@ -99,16 +85,20 @@ pub returns-then-loses : goal.returns-then-loses
 returns-then-loses c =
     let p = (goal.at.returns-then-loses c).After-too_little_room-short in
     let lost : c.loses_number-loses.result ≡ true = cc in
-    let w = loses (t p) (pass p) (vessel p) (xs p) (at p) (buffer p) (sym (loses_is p) ∙ lost) in
-    record { answer = cc w.0; buffer = w.1 }
+    record {
+      answer = (loses (t p) (pass p) (vessel p) (row p) (at p) (buffer p) _ (cc) (sym (loses_is p) ∙ lost)).0;
+      buffer = (loses (t p) (pass p) (vessel p) (row p) (at p) (buffer p) _ refl (sym (loses_is p) ∙ lost)).1;
+    }
 
 pub returns-then-short : goal.returns-then-short
 returns-then-short c =
     let p = (goal.at.returns-then-short c).After-too_little_room-short in
     let kept : c.loses_number-loses.result ≡ false = cc in
     let short : c.too_little_room-short.result ≡ true = cc in
-    let w = no_room (t p) (pass p) (vessel p) (xs p) (at p) (buffer p) (sym (loses_is p) ∙ kept) (sym (short_is p) ∙ short) in
-    record { answer = cc w.0; buffer = w.1 }
+    record {
+      answer = (no_room (t p) (pass p) (vessel p) (row p) (at p) (buffer p) _ (cc) (sym (loses_is p) ∙ kept) (sym (short_is p) ∙ short)).0;
+      buffer = (no_room (t p) (pass p) (vessel p) (row p) (at p) (buffer p) _ refl (sym (loses_is p) ∙ kept) (sym (short_is p) ∙ short)).1;
+    }
 
 pub returns-then-deductions_pass : goal.returns-then-deductions_pass
 returns-then-deductions_pass c =
@@ -116,8 +106,10 @@ returns-then-deductions_pass c =
     let kept : c.loses_number-loses.result ≡ false = cc in
     let enough : c.too_little_room-short.result ≡ false = cc in
     let over : c.args.deductions_pass ≡ true = cc in
-    let w = over_gross (t p) (pass p) (vessel p) (xs p) (at p) (buffer p) (sym (loses_is p) ∙ kept) (sym (short_is p) ∙ enough) over in
-    record { answer = cc w.0; buffer = w.1 }
+    record {
+      answer = (over_gross (t p) (pass p) (vessel p) (row p) (at p) (buffer p) _ (cc) (sym (loses_is p) ∙ kept) (sym (short_is p) ∙ enough) over).0;
+      buffer = (over_gross (t p) (pass p) (vessel p) (row p) (at p) (buffer p) _ refl (sym (loses_is p) ∙ kept) (sym (short_is p) ∙ enough) over).1;
+    }
 
 pub slice_bounds-write_records-count : goal.slice_bounds-write_records-count
 slice_bounds-write_records-count c = omega (arith, from_place (goal.at.slice_bounds-write_records-count c).After-too_little_room-short c.if-short.false)
@@ -128,10 +120,9 @@ slice_bounds-write_records-start c = omega (arith, from_place (goal.at.slice_bou
 pub write_records-requires : goal.write_records-requires
 write_records-requires c =
     let p = (goal.at.write_records-requires c).After-too_little_room-short in
-    let left = c.if-short.false in (
-      search rules,
-      simp (length-take, length-drop) (omega (arith, enough p left, from_place p left, c.sheet_size-size.ensures)),
-    )
+    let left = c.if-short.false in
+    let many = ap (λ (n : ℕ). record_size c.form_of-form.result * n) (full p) in
+    simp (length-take, length-drop) (omega (arith, enough p left, from_place p left, c.sheet_size-size.ensures, many))
 
 pub overflow_mul-end : goal.overflow_mul-end
 overflow_mul-end c = record { fits = omega (arith, (ends (room (goal.at.overflow_mul-end c).After-too_little_room-short c.if-short.false) c.record_size.ensures).0) }
@@ -154,11 +145,11 @@ returns c =
     let left = c.if-short.false in
     let n = (t p).count in
     let w =
-    stored_whole (t p) (pass p) (vessel p) (xs p) (at p) (buffer p) _ _ _ _ _
+    stored_whole (t p) (pass p) (vessel p) (row p) (at p) (buffer p) _ _ _ _ _
     (sym (loses_is p) ∙ c.if-loses.false)
     (sym (short_is p) ∙ left)
     c.if-deductions_pass.false
-    (length-take-le n (row p) (omega (arith, full p, few p)))
+    (full p)
     (size_is p)
     (ap (λ (r : ℕ). at p + r * n) c.record_size.ensures.0 ∙ ap (λ (g : Form). at p + record_size g * n) (form_is p))
     (from_place p left)

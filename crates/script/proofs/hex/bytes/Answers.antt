@@ -1,34 +1,60 @@
--- `hex::bytes` meets its contract. The loop's invariant: n bytes are laid, and those of the digits ahead are still to lay.
-use Prim.Native.Nat.{ℕ, ◌+◌, ◌*◌}
-use mathlib.Core.Path.{◌≡◌, ap, ◌∙◌}
-use mathlib.Core.List.{◌∷◌}
-use native.Mathlib.Omega.{arith}
-use lib.ListN.{drop, get_or, length-set, length-drop}
-use Rattle.script.specs.Hex.{digit_value, bytes_of}
-use Rattle.script.proofs.Laws.Laid.{one_more, all_laid, array_full}
-use Rattle.script.proofs.Laws.Hex.{byte_ahead, none_ahead}
+-- `hex::bytes` meets its contract.
+use Rattle.std.proofs.Common.{◌≡◌, ◌<◌, sym, ap, ◌∙◌, rules, arith, length, length-append, length-take, set, take, get_or, ◌+◌, ◌*◌, ℕ}
+use Rattle.std.proofs.lemmas.Iterator.{YieldsList-from_take}
+use Rattle.std.proofs.lemmas.Iterator.Consumers.{YieldsList-from_enumerate, YieldsList-turn, YieldsList-end}
+use Rattle.std.proofs.lemmas.List.FromFn.{length-enumerate_from}
+use Rattle.script.specs.Laid.{fitting}
+use Rattle.script.specs.Hex.{bytes_of}
+use Rattle.script.proofs.Laws.Laid.{begun, listed, laid_more, all_laid}
+use Rattle.script.proofs.Laws.Hex.{pairs_of, pairs_yielded, pairs_length, pair_length, byte_read, bytes_length}
 use Rattle.script.proofs.hex.bytes.Goals as goal
+use Rattle.script.proofs.hex.bytes.Goals.{In-Some}
 
-pub returns-then-digits-at-lt2 : goal.returns-then-digits-at-lt2
-returns-then-digits-at-lt2 c =
-    let l = c.loop-n in
-    let all = all_laid l.invariant.2 (none_ahead (drop l.at c.args.digits.now) (rw length-drop (omega arith))) in
-    record { value = all.0; into_after = all.1 }
-
-pub loop-n-preserved : goal.loop-n-preserved
-loop-n-preserved c =
-    let l = c.loop-n in
+-- the pair of this turn, by its place
+pair_passed : (c : In-Some)
+    → (c.in-Some.place ≡ length c.loop-place.yielded)
+    × (length c.loop-place.yielded < c.min-n.result)
+    × (length c.loop-place.yielded < length (pairs_of c.args.digits.now))
+    × (c.in-Some.pair.now ≡ get_or (pairs_of c.args.digits.now) (length c.loop-place.yielded) c.in-Some.pair.now)
+pair_passed c =
+    let l = c.loop-place in
     let digits = c.args.digits.now in
-    let byte = c.digit_value.result * 16 + c.digit_value-in-loop-n.result in
-    let is : digit_value (get_or digits l.at 0) * 16 + digit_value (get_or digits (l.at + 1) 0) ≡ byte =
-    rw (c.digit_value.ensures.0, c.digit_value-in-loop-n.ensures.0) in
-    let next = byte_ahead digits l.at (omega arith) ∙ ap (λ (x : ℕ). x ∷ bytes_of (drop (l.at + 2) digits)) is in (
-      length-set l.into l.n byte ∙ l.invariant.0,
-      omega arith,
-      one_more l.invariant.2 byte (bytes_of (drop (l.at + 2) digits)) next (omega arith),
-    )
+    let turn = YieldsList-turn (YieldsList-from_enumerate {s = c.into_iter-place-iterator.result} (YieldsList-from_take c.min-n.result (pairs_yielded digits (search rules) (search rules)) (search rules)) (search rules))
+    l.yielded l.place-iterator l.yielded_by c.next.result c.next.new.self (c.in-Some.place, c.in-Some.pair) c.in-Some.is c.next.ensures.steps in
+    listed (pairs_of digits) c.min-n.result c.in-Some.place (length l.yielded) c.in-Some.pair.now turn
 
-pub returns : goal.returns
-returns c =
-    let all = array_full c.loop-n.invariant.2 (omega arith) in
-    record { value = all.0; into_after = all.1 }
+pub bounds-pair-1 : goal.bounds-pair-1
+bounds-pair-1 c =
+    let here = pair_passed (goal.at.bounds-pair-1 c).In-Some in
+    omega (arith, pair_length c.args.digits.now (length c.loop-place.yielded) c.in-Some.pair.now here.2 here.3)
+
+pub bounds-into-place : goal.bounds-into-place
+bounds-into-place c =
+    let here = pair_passed (goal.at.bounds-into-place c).In-Some in
+    omega (arith, here.0, here.1, c.min-n.ensures)
+
+pub loop-place-preserved : goal.loop-place-preserved
+loop-place-preserved c =
+    let l = c.loop-place in
+    let digits = c.args.digits.now in
+    let here = pair_passed (goal.at.loop-place-preserved c).In-Some in
+    let into = c.args.into.now in
+    let value = c.digit_value.result * 16 + c.digit_value-in-loop-place.result in
+    let byte : value ≡ get_or (bytes_of digits) (length l.yielded) 0 =
+    rw (c.digit_value.ensures.0, c.digit_value-in-loop-place.ensures.0) (byte_read digits (length l.yielded) c.in-Some.pair.now here.2 here.3) in
+    ap (λ (k : ℕ). set l.into k value) here.0
+    ∙ laid_more (bytes_of digits) into (length l.yielded) value l.invariant (omega (arith, here.2, pairs_length digits)) (omega (arith, here.1, c.min-n.ensures)) byte
+    ∙ ap (λ (k : ℕ). begun (bytes_of digits) k into) (sym (length-append l.yielded _))
+
+pub returns-clause-value : goal.returns-clause-value
+returns-clause-value c = omega (arith, c.min-n.ensures, bytes_length c.args.digits.now)
+
+pub returns-clause-into_after : goal.returns-clause-into_after
+returns-clause-into_after c =
+    let l = c.loop-place in
+    let digits = c.args.digits.now in
+    let ended = YieldsList-end (YieldsList-from_enumerate {s = c.into_iter-place-iterator.result} (YieldsList-from_take c.min-n.result (pairs_yielded digits (search rules) (search rules)) (search rules)) (search rules))
+    l.yielded l.place-iterator l.yielded_by c.next.result c.next.new.self c.in-None.is c.next.ensures.steps in
+    let all : length l.yielded ≡ fitting (bytes_of digits) c.args.into.now =
+    omega (arith, c.min-n.ensures, ended.1, length-enumerate_from 0 (take c.min-n.result (pairs_of digits)), length-take c.min-n.result (pairs_of digits), pairs_length digits, bytes_length digits) in
+    all_laid (bytes_of digits) c.args.into.now (length l.yielded) all l.invariant

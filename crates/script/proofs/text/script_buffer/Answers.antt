@@ -1,6 +1,5 @@
 -- `text::script_buffer` meets its contract, by the length of a repeat: a million elements are not to be counted out.
-use Prim.Native.Nat.{ℕ}
-use mathlib.Core.Path.{refl, sym}
+use Rattle.std.proofs.Common.{ℕ, refl, sym}
 use lib.ListN.{length-replicate}
 use Rattle.script.specs.Text.{room_for_script}
 use Rattle.script.proofs.text.script_buffer.Goals as goal

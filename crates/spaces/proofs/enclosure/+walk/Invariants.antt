@@ -1,5 +1,5 @@
--- `enclosure::walk` ends: the levels left fall with each step.
+-- The levels left of `enclosure::walk` are one fewer at each level.
 use Rattle.spaces.proofs.enclosure.+walk.Given as goal
 
 abbrev pub decreases-walk : goal.decreases-walk
-decreases-walk l = l.left
+decreases-walk g l = l.left

@@ -1,8 +1,5 @@
 -- `Entry::pointed_with_area` meets its contract: with no end pointed, no area is looked at.
-use Prim.Native.Nat.{ℕ}
-use mathlib.Core.Path.{◌≡◌, sym}
-use mathlib.Core.Bool.{Bool, true, false, ◌&&◌, ◌||◌}
-use mathlib.Core.List.{List}
+use Rattle.std.proofs.Common.{ℕ, ◌≡◌, sym, ◌∙◌, Bool, true, false, ◌&&◌, ◌||◌, List}
 use Rattle.measure.specs.Ends.{end_areas}
 use Rattle.measure.specs.declared.units.Hundredths.{Hundredths}
 use Rattle.measure.proofs.Laws.Tests.{as_answered, and_left}
@@ -40,9 +37,10 @@ returns-then-not-has_pointed_end c =
 pub returns-then-pointed_area : goal.returns-then-pointed_area
 returns-then-pointed_area c =
     let a = c.args in
-    by_fore a.self a.whole a.depths.now a.breadths.now c.has_pointed_end.ensures c.if-not-has_pointed_end.false c.end_areas-areas.ensures c.pointed_area.ensures c.if-pointed_area.true
+    c.if-pointed_area.true
+    ∙ by_fore a.self a.whole a.depths.now a.breadths.now c.has_pointed_end.ensures c.if-not-has_pointed_end.false c.end_areas-areas.ensures c.pointed_area.ensures c.if-pointed_area.true
 
-pub returns : goal.returns
-returns c =
+pub returns-else-pointed_area : goal.returns-else-pointed_area
+returns-else-pointed_area c =
     let a = c.args in
-    by_aft a.self a.whole a.depths.now a.breadths.now c.has_pointed_end.ensures c.if-not-has_pointed_end.false c.end_areas-areas.ensures c.pointed_area.ensures c.if-pointed_area.false c.pointed_area-2.ensures
+    by_aft a.self a.whole a.depths.now a.breadths.now c.has_pointed_end.ensures c.if-not-has_pointed_end.false c.end_areas-areas.ensures c.pointed_area.ensures c.if-pointed_area.false c.pointed_area-else-pointed_area.ensures

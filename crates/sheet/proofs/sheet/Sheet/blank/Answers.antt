@@ -1,6 +1,5 @@
 -- `Sheet::blank` meets its contract.
-use mathlib.Core.Path.{◌≡◌, refl}
-use mathlib.Core.Bool.{Bool, true, false, cond}
+use Rattle.std.proofs.Common.{◌≡◌, refl, Bool, true, false, cond}
 use mir.Val.{bool_byte}
 use Rattle.sheet.specs.Sheet.{blank}
 use Rattle.sheet.proofs.sheet.Sheet.blank.Goals as goal
@@ -11,4 +10,4 @@ as_number false = refl
 
 pub returns : goal.returns
 unfolding blank
-returns c = rw (c.keeping-free.ensures, c.empty-none.ensures, as_number c.args.opened)
+returns c = rw (c.from-free.ensures, c.empty-none.ensures, c.from.ensures, as_number c.args.opened)

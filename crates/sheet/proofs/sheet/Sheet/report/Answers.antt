@@ -1,5 +1,5 @@
 -- `Sheet::report` meets its contract: its figures, with the sheet.
-use mathlib.Core.Path.{ap}
+use Rattle.std.proofs.Common.{ap}
 use Rattle.sheet.specs.Calls.{reported}
 use Rattle.sheet.specs.declared.calls.Figures.{Figures}
 use Rattle.sheet.proofs.sheet.Sheet.report.Goals as goal

@@ -1,9 +1,0 @@
--- `tanks::larger` meets its contract.
-use borrow.Author.Tests.{le-leb, lt-leb}
-use Rattle.measure.proofs.tanks.larger.Goals as goal
-
-pub returns-then-a-b : goal.returns-then-a-b
-returns-then-a-b c = simp (le-leb _ _ c.if-a-b.true)
-
-pub returns-else-a-b : goal.returns-else-a-b
-returns-else-a-b c = simp (lt-leb _ _ c.if-a-b.false)
