@@ -41,5 +41,5 @@ pub(crate) fn in_ranges(numbers: &[u64], least: &[u64], greatest: &[u64]) -> boo
     ensures { result ≡ in_ranges least.now greatest.now numbers.now }
 {
     let mut ranged = numbers.iter().zip(least.iter().zip(greatest));
-    ranged.all(|(number, (least, greatest))| least <= number && number <= greatest)
+    ranged.all(|(number, (least, greatest))| (*least..=*greatest).contains(number))
 }

@@ -39,7 +39,7 @@ const FORM_2: Form = Form {
 pub(crate) fn is_form(number: u8) -> bool
     ensures { result ≡ is_form number }
 {
-    1 <= number && number <= FORMS
+    (1..=FORMS).contains(&number)
 }
 
 // The form of a number. It is total, as its definition is: a trailer and the C records hold the number, which is that of a form.

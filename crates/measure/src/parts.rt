@@ -57,7 +57,7 @@ pub(crate) fn of_superstructure(tonnage_length: Hundredths, length: Hundredths) 
 }
 
 // The even number from 2 to 16 whose interval of `length` is nearest to `whole` divided in `parts`. From the greatest
-// down, so that a lesser one has to be nearer.
+// down, so that a lesser one has to be nearer; by number, as the definition (`nearest_of_last`) tells them.
 #[tactic(auto, unfolding(crate::specs::Parts::nearest_parts), using(crate::proofs::Laws::Parts::nearest_of_last_le))]
 pub(crate) fn nearest_parts(whole: Hundredths, parts: usize, length: Hundredths) -> usize
     requires { parts ≤ 16 }

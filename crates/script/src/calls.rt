@@ -77,7 +77,7 @@ fn line_by(forms: &[u8], line: &[u8]) -> Result<Option<usize>, Remark>
 fn is_passed(line: &[u8]) -> bool
     ensures { result ≡ is_passed line.now }
 {
-    line.is_empty() || line[0] == b'#'
+    matches!(line.first(), None | Some(b'#'))
 }
 
 // Whether a form has the line's name and, where they are counted, as many words: one test with a flag, as is_form and place_by in specs/.

@@ -113,7 +113,7 @@ pub fn measure_in(word: &[u8]) -> u32
     u32::try_from(value_in(word)).unwrap_or(u32::MAX)
 }
 
-// A number as the size of a buffer, the greatest where it is above that.
+// A number as the size of a buffer, the greatest where it is above that: so small that the cast loses nothing.
 pub fn size_in(word: &[u8]) -> usize
     ensures { result ≡ size_of word.now }
 {

@@ -64,7 +64,7 @@ impl Entry {
 fn is_end(end: u8) -> bool
     ensures { result ≡ is_end end }
 {
-    INNER <= end && end <= POINTED
+    (INNER..=POINTED).contains(&end)
 }
 
 fn pointed_area(end: u8, area: u32) -> bool

@@ -20,7 +20,8 @@ pub(crate) struct Index<'a> {
 }
 
 impl<'a> Index<'a> {
-    // From the last space to the first, so that the first place of an id stays.
+    // From the last space to the first, so that the first place of an id stays. By place, which is what is laid down: an `enumerate` turned
+    // round would be no plainer.
     pub(crate) fn of(row: Row<'a>) -> Index<'a>
         ensures { result.row.spaces.now ≡ row.entry.spaces.now }
     {
@@ -75,6 +76,7 @@ pub(crate) struct First<'a> {
     ghost within: { most ≤ length index.now.row.spaces.now },
 }
 
+// Told by its place among all: a `get` among the first would be as long, and ask a law more.
 impl Chains for First<'_> {
     ghost among = { λ first. take first.most first.index.now.row.spaces.now };
 

@@ -43,7 +43,8 @@ fn record_number(x: Space, tonnage_length: Hundredths, seen: Seen) -> u8
     }
 }
 
-// The first of the records that is refused: those before each are fewer than 200.
+// The first of the records that is refused: those before each are fewer than 200. By number, which the position and those before it are
+// told by: a `zip` with what is around each would leave it standing.
 pub fn first_refused(row: Row, tonnage_length: Hundredths) -> RefusedRecord
     ensures { result ≡ first_refused tonnage_length [] row.entry.spaces.now }
 {

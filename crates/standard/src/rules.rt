@@ -51,7 +51,7 @@ pub(crate) struct Seen {
 fn id_refused(x: Space, taken: bool) -> bool
     ensures { result ≡ (ltb x.id 1 || ltb 9999 x.id || taken) }
 {
-    x.id < 1 || GREATEST_ID < x.id || taken
+    !(1..=GREATEST_ID).contains(&x.id) || taken
 }
 
 // 5: a room's enclosing id isn't standing.

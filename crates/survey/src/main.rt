@@ -93,7 +93,7 @@ impl<'a> Line<'a> {
         Hundredths(words::measure_in(self.word(place)))
     }
 
-    // A place in a buffer or a file.
+    // A place in a buffer or a file, which has as many bits as a number of a script.
     fn position(self, place: usize) -> usize {
         words::value_in(self.word(place)) as usize
     }
