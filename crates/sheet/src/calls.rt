@@ -1,6 +1,6 @@
 // The calls on a sheet. Each answers the paper's number, 0 where accepted, its values, and the sheet after it; a refused
-// change, undo or redo hands back the sheet as it came. A call that changes the sheet does so in its answer's own, so that
-// the sheet is copied once.
+// change, undo or redo hands back the sheet as it came. A call that changes the sheet does so in its answer's own, so that none
+// is copied for the answer.
 //
 // A number beside the values and no `Result`, in `Changed`, `Entering`, `Reported` and `tanks::TankEntering`: C takes them by this layout.
 ghost use Rattle.std.specs.Prelude.{◌≡◌, not, [], ◌∷◌, eqb};
@@ -148,7 +148,7 @@ impl Figures {
 }
 
 impl Changed {
-    // A sheet changed so, and what came of it. It is changed where it is answered, so that it is copied once.
+    // A sheet changed so, and what came of it. It is changed where it is answered, so that none is copied for the answer.
     fn by<F: FnOnce(&mut Sheet) -> Result<(), Refusal>>(sheet: Sheet, change: F) -> Changed
         requires { F.IsAlwaysCallable change }
         ensures { (outcome : _) × FnOnceReturnsAtMut F.FnOnce change sheet outcome result.sheet × (result ≡ answer_of outcome result.sheet) }
