@@ -8,3 +8,4 @@ pub mod Below
 pub mod Index
 pub mod Before
 pub mod Around
+pub mod Homes

@@ -3,6 +3,7 @@ ghost use Rattle.std.specs.Prelude.{◌≡◌};
 ghost use Rattle.spaces.specs.Around.{enclosing_place, beside_of, around_of, blank_around, each_around};
 
 use crate::enclosure::{LEVELS, walk};
+use crate::homes::Homes;
 use crate::index::Index;
 use crate::row::{PLACES, Row};
 use crate::space::Space;
@@ -75,17 +76,18 @@ impl Row<'_> {
 
     // What is around each of the spaces among those before it; a blank for each free place, as there is no heap. By an index and running
     // sums, so that no search and no sum is made twice: of the rooms inside each place (of none behind the last one), and of the lengths
-    // of all U.
+    // of all U. What is answered is laid out first, so that the stack has it once.
     pub fn around_each(self) -> [Around; 200]
         ensures { result ≡ each_around self.entry.spaces.now }
     {
+        let mut all = [blank_around(); 200];
         let index = Index::of(self);
+        let homes = Homes::of(&index);
         let mut inside = [0u64; PLACES + 1];
         let mut lengths: u64 = 0;
-        let mut all = [blank_around(); 200];
         for (i, &x) in self.spaces.iter().enumerate() {
-            let home = index.enclosing_place(x);
-            let up = walk(&index.first(i), x, LEVELS);
+            let home = homes.place(i);
+            let up = walk(&homes.first(i), i, LEVELS);
             let beside = if home < i { inside[home] } else { lengths };
             all[i] = Around {
                 taken: index.place_of(x.id) < i,

@@ -1,9 +1,10 @@
 // The chain upward ("Enclosure"): walked one enclosing space at a time, for levels and for the standings above and below.
-ghost use Rattle.std.specs.Prelude.{List, ◌≡◌, [], ◌≤◌};
+ghost use Rattle.std.specs.Prelude.{List, ◌≡◌, [], ◌≤◌, option_map};
 ghost use Rattle.spaces.specs.Enclosure.{enclosing, upward, above, all_plain, among, below, walked};
 ghost use Rattle.spaces.specs.declared.space.Space.{Space};
 ghost use Rattle.spaces.specs.Handed.{past_of};
 
+use crate::homes::Homes;
 use crate::index::Index;
 use crate::row::Row;
 use crate::space::Space;
@@ -41,16 +42,28 @@ fn past(standing: u8, further: Above) -> Above
     }
 }
 
-// Spaces among which a chain upward is walked: a row searches for an enclosing space; an index finds it at once, which 200 walks need.
+// Spaces among which a chain upward is walked. A row is told a space itself, which may stand or not, and searches for the enclosing one;
+// the first of `Homes` are told one by its place, and find it at once, which 200 walks need.
 pub(crate) trait Chains {
+    type Told: Copy;
+
     ghost among: { Self → List Space };
 
-    fn enclosing(&self, x: Space) -> Option<Space>
-        ensures { result ≡ enclosing (among self.now) x };
+    ghost told: { Self → Self.Told → Space };
+
+    fn enclosing(&self, x: Self::Told) -> Option<Self::Told>
+        ensures { option_map (told self.now) result ≡ enclosing (among self.now) (told self.now x) };
+
+    fn space(&self, x: Self::Told) -> Space
+        ensures { result ≡ told self.now x };
 }
 
 impl Chains for Row<'_> {
+    type Told = Space;
+
     ghost among = { λ row. row.spaces.now };
+
+    ghost told = { λ row x. x };
 
     fn enclosing(&self, x: Space) -> Option<Space> {
         if x.kind == ROOM {
@@ -59,33 +72,37 @@ impl Chains for Row<'_> {
             None
         }
     }
+
+    fn space(&self, x: Space) -> Space {
+        x
+    }
 }
 
 // From a space upward to level 1, with `left` levels left.
-pub(crate) fn walk<C: Chains>(spaces: &C, x: Space, left: u8) -> Above
+pub(crate) fn walk<C: Chains>(spaces: &C, x: C::Told, left: u8) -> Above
     requires { left ≤ 8 }
-    ensures met { result ≡ walked (upward left (C.among spaces.now) x) }
+    ensures met { result ≡ walked (upward left (C.among spaces.now) (C.told spaces.now x)) }
     ensures short { result.levels ≤ left }
 {
     if left == 0 {
         return nothing();
     }
     match spaces.enclosing(x) {
-        Some(z) => past(z.standing, walk(spaces, z, left - 1)),
+        Some(z) => past(spaces.space(z).standing, walk(spaces, z, left - 1)),
         None => nothing(),
     }
 }
 
 // Whether the chain upward from a space meets the one with an id, with `left` levels left. They are tested first, since a level less is
 // reckoned behind that.
-fn leads_to<C: Chains>(spaces: &C, x: Space, id: u16, left: u8) -> bool
-    ensures { result ≡ among id (upward left (C.among spaces.now) x) }
+fn leads_to<C: Chains>(spaces: &C, x: C::Told, id: u16, left: u8) -> bool
+    ensures { result ≡ among id (upward left (C.among spaces.now) (C.told spaces.now x)) }
 {
     if left == 0 {
         return false;
     }
     match spaces.enclosing(x) {
-        Some(z) => z.id == id || leads_to(spaces, z, id, left - 1),
+        Some(z) => spaces.space(z).id == id || leads_to(spaces, z, id, left - 1),
         None => false,
     }
 }
@@ -109,10 +126,9 @@ impl Row<'_> {
     fn plain_chains(self, id: u16) -> bool
         ensures { result ≡ all_plain (below id self.entry.spaces.now) }
     {
-        let index = Index::of(self);
-        let all = index.first(self.spaces.len());
-        self.spaces
-            .iter()
-            .all(|y| y.standing == 0 || !leads_to(&all, *y, id, LEVELS))
+        let homes = Homes::of(&Index::of(self));
+        let all = homes.first(self.spaces.len());
+        self.spaces.iter().enumerate().all(|(at, y)| y.standing == 0
+            || !leads_to(&all, at, id, LEVELS))
     }
 }

@@ -1,11 +1,9 @@
 // The places of ids, found by an index instead of a search: for each id the place at which it stands.
-ghost use Rattle.std.specs.Prelude.{◌≡◌, ◌≤◌, length, take};
+ghost use Rattle.std.specs.Prelude.{◌≡◌, ◌≤◌, length};
 ghost use Rattle.spaces.specs.Row.{place_of};
-ghost use Rattle.spaces.specs.Enclosure.{enclosing};
 ghost use Rattle.spaces.specs.Around.{enclosing_place};
 ghost use Rattle.spaces.specs.Handed.{Indexed};
 
-use crate::enclosure::Chains;
 use crate::row::Row;
 use crate::space::Space;
 use measure::kinds::ROOM;
@@ -45,8 +43,7 @@ impl<'a> Index<'a> {
         }
     }
 
-    // The place of the enclosing space, from 0; as many as stand where there is none. Not by
-    // `Chains`, which a row has too: that answers the space and not its place.
+    // The place of the enclosing space, from 0; as many as stand where there is none.
     #[tactic(auto, using(crate::proofs::Laws::Places::place_bounded))]
     pub(crate) fn enclosing_place(&self, x: Space) -> usize
         ensures place { result ≡ enclosing_place self.now.row.spaces.now x }
@@ -56,37 +53,6 @@ impl<'a> Index<'a> {
             self.place_of(x.within)
         } else {
             self.row.spaces.len()
-        }
-    }
-
-    // The first `most` of the spaces.
-    pub(crate) fn first(&self, most: usize) -> First<'_>
-        requires { most ≤ length self.now.row.spaces.now }
-        ensures { take result.most result.index.now.row.spaces.now ≡ take most self.now.row.spaces.now }
-    {
-        First { index: self, most }
-    }
-}
-
-// The first of an index's spaces.
-#[derive(Clone, Copy)]
-pub(crate) struct First<'a> {
-    index: &'a Index<'a>,
-    most: usize,
-    ghost within: { most ≤ length index.now.row.spaces.now },
-}
-
-// Told by its place among all: a `get` among the first would be as long, and ask a law more.
-impl Chains for First<'_> {
-    ghost among = { λ first. take first.most first.index.now.row.spaces.now };
-
-    fn enclosing(&self, x: Space) -> Option<Space> {
-        let index = self.index;
-        let place = index.enclosing_place(x);
-        if place < self.most {
-            Some(index.row.spaces[place])
-        } else {
-            None
         }
     }
 }

@@ -8,6 +8,7 @@
 
 pub mod around;
 pub mod enclosure;
+mod homes;
 mod index;
 pub mod row;
 pub mod space;

@@ -1,7 +1,7 @@
 -- The walk upward: its first step, its length, and what it answers past a space.
-use Rattle.std.proofs.Common.{◌≡◌, refl, sym, ap, ◌∙◌, Bool, true, false, not, cond, ◌&&◌, List, [], ◌∷◌, Option, None, Some, ◌||◌, ℕ, zero, suc, ◌≤◌, arith, length}
-use Rattle.std.specs.List.{list_all}
-use Rattle.spaces.specs.Space.{is_plain}
+use Rattle.std.proofs.Common.{◌≡◌, refl, sym, ap, ap₂, ◌∙◌, Bool, true, false, not, cond, ◌&&◌, List, [], ◌∷◌, Option, None, Some, ◌||◌, ℕ, zero, suc, ◌+◌, ◌≤◌, ◌<◌, arith, length, get_or}
+use Rattle.std.specs.List.{list_all, enumerate_from}
+use Rattle.spaces.specs.Space.{empty_space, is_plain}
 use Rattle.spaces.specs.Enclosure.{enclosing, onward, upward, above, visited, among, all_plain, below_of}
 use Rattle.spaces.specs.declared.space.Space.{Space}
 
@@ -42,3 +42,15 @@ module _ (id : ℕ) (xs : List Space) where
   plain_below_is [] = refl
   plain_below_is (y ∷ ys) =
       ap (λ (b : Bool). not_taken y && b) (plain_below_is ys) ∙ one_below (among id (above xs y)) (is_plain y) _ y (below_of id xs ys) refl refl
+
+  -- the same of each space with its place, from a place of all on
+  abbrev pub not_taken_at : List Space → ℕ × Space → Bool
+  not_taken_at all p = is_plain p.1 || not (among id (above xs (get_or all p.0 empty_space)))
+
+  pub each_not_taken : (all ys : List Space) (k : ℕ) → ((i : ℕ) → i < length ys → get_or all (k + i) empty_space ≡ get_or ys i empty_space)
+      → list_all (not_taken_at all) (enumerate_from k ys) ≡ list_all not_taken ys
+  each_not_taken all [] k there = refl
+  each_not_taken all (y ∷ ys) k there =
+      let here : get_or all k empty_space ≡ y = ap (λ (p : ℕ). get_or all p empty_space) (omega arith) ∙ there 0 (omega arith) in
+      ap₂ (λ (z : Space) (b : Bool). (is_plain y || not (among id (above xs z))) && b) here
+      (each_not_taken all ys (k + 1) (λ i l. ap (λ (p : ℕ). get_or all p empty_space) (omega arith) ∙ there (suc i) (omega arith)))

@@ -59,3 +59,6 @@ one_id_at w id (x ∷ xs) h e =
 
 pub enclosed_nowhere : (xs : List Space) (x : Space) → enclosing xs x ≡ None → enclosing_place xs x ≡ length xs
 enclosed_nowhere xs x e = by_test (is_room x) (λ r. rw r (unplaced x.within xs (rw r at e))) (λ r. rw r)
+
+pub home_within : (xs : List Space) (x : Space) → enclosing_place xs x ≤ length xs
+home_within xs x = by_test (is_room x) (λ r. rw r (place_bounded x.within xs)) (λ r. rw r (omega arith))

@@ -1,5 +1,5 @@
 -- `around::Row::around_each` meets its contract.
-use Rattle.std.proofs.Common.{◌≡◌, ◌∙◌, ◌<◌, length, get_or, arith, cond, ltb, sym, ap, set, take, List, lt-ltb, le-ltb}
+use Rattle.std.proofs.Common.{◌≡◌, ◌∙◌, ◌<◌, length, get_or, arith, cond, ltb, sym, ap, ap₂, set, take, List, lt-ltb, le-ltb}
 use Rattle.spaces.specs.Space.{empty_space}
 use Rattle.spaces.specs.Row.{place_of}
 use Rattle.spaces.specs.Enclosure.{upward, walked}
@@ -13,17 +13,18 @@ pub loop-i-init : goal.loop-i-init
 loop-i-init c = record { told = rw c.blank_around-all.ensures; summed = nothing_summed c.args.self.spaces.now c.args.self.few }
 
 pub overflow_add-inside : goal.overflow_add-inside
-overflow_add-inside c = omega (arith, c.loop-i.invariant.summed.rooms_bounded c.enclosing_place-home.result (omega arith), c.share.ensures.1)
+overflow_add-inside c = omega (arith, c.loop-i.invariant.summed.rooms_bounded c.place-home.result (omega arith), c.share.ensures.1)
 
 pub loop-i-preserved : goal.loop-i-preserved
 loop-i-preserved c =
     let xs = c.args.self.spaces.now in
     let i = c.loop-i.i in
     let at : i < length xs = omega arith in
-    let home = c.enclosing_place-home.result in
+    let home = c.place-home.result in
     let so = c.loop-i.invariant in
     let same = c.of-index.ensures in
-    let its_home = c.enclosing_place-home.ensures.place ∙ ap (λ ys. enclosing_place ys (get_or xs i empty_space)) same in
+    let homes = c.of-homes.ensures ∙ same in
+    let its_home = c.place-home.ensures.place ∙ ap (λ ys. enclosing_place ys (get_or ys i empty_space)) homes in
     let beside : c.if-home-i.beside ≡ cond (ltb home i) (get_or c.loop-i.inside home 0) c.loop-i.lengths =
     elim c.if-home-i.branch [
       | then-home-i w ↦ w.beside-is ∙ sym (simp (lt-ltb home i w.if-home-i.true))
@@ -34,7 +35,8 @@ loop-i-preserved c =
     rw (c.min.ensures, beside)
     (gathered xs i at home c.place_of.result c.walk-up.result its_home
     (c.place_of.ensures ∙ ap (place_of (get_or xs i empty_space).id) same)
-    (c.walk-up.ensures.met ∙ ap (λ ys. walked (upward 8 ys (get_or xs i empty_space))) (c.first.ensures ∙ ap (take i) same))
+    (c.walk-up.ensures.met
+    ∙ ap₂ (λ ys k. walked (upward 8 (take k ys) (get_or ys i empty_space))) (c.first.ensures.all ∙ homes) c.first.ensures.so_many)
     c.loop-i.inside c.loop-i.lengths so.summed) in
     record {
       told = ap (λ (row : List Around). set row i told) so.told ∙ ap (set (around_first xs i) i) known ∙ around_more xs i at c.args.self.few;
