@@ -11,7 +11,8 @@
 use input::read_full;
 use measure::units::Hundredths;
 use script::remarks::Remark;
-use script::{calls, text, words};
+use script::text::{self, Lines};
+use script::{calls, words};
 use std::io;
 
 #[derive(Clone, Copy)]
@@ -28,14 +29,14 @@ fn main(rt: HostRuntime) -> io::Result<()> {
     let mut script = text::script_buffer();
     let n = read_full(&mut rt.reader(), &mut script)?;
     if text::MOST_BYTES < n {
-        return println!(rt; "{}", Remark::ScriptTooLong);
+        return answer_remark(&rt, Remark::ScriptTooLong);
     }
     answer_lines(&rt, &script[..n])
 }
 
 // A loop of its own, beside that of `survey`, which hands a sheet on.
 fn answer_lines(rt: &impl Print, script: &[u8]) -> io::Result<()> {
-    for line in script.split(|byte| *byte == b'\n') {
+    for line in Lines(script) {
         answer(rt, line)?;
     }
     Ok(())
@@ -45,8 +46,14 @@ fn answer(rt: &impl Print, line: &[u8]) -> io::Result<()> {
     match calls::figures_line(line) {
         Ok(None) => Ok(()),
         Ok(Some(place)) => answer_call(rt, line, CALLS[place]),
-        Err(remark) => println!(rt; "{remark}"),
+        Err(remark) => answer_remark(rt, remark),
     }
+}
+
+// A remark and a newline, each written by itself.
+fn answer_remark(rt: &impl Print, remark: Remark) -> io::Result<()> {
+    print!(rt; "{remark}")?;
+    println!(rt)
 }
 
 fn answer_call(rt: &impl Print, line: &[u8], call: Call) -> io::Result<()> {

@@ -5,3 +5,4 @@ pub mod Numbers
 pub mod Measures
 pub mod Hex
 pub mod Calls
+pub mod Lines

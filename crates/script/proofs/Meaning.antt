@@ -1,4 +1,4 @@
--- What the definitions of specs/ mean: the parts of a text joined again, a number by its places, hex written and read back, which form a
+-- What the definitions of specs/ mean: the parts of a text joined again, its lines, a number by its places, hex written and read back, which form a
 -- line has, and what a line that fits leaves to its call.
 use Rattle.std.proofs.Common.{ℕ, zero, suc, ◌+◌, ◌*◌, ◌-◌, ◌/◌, ◌%◌, ◌^◌, ◌≤◌, ◌<◌, min, ◌≡◌, refl, sym, ap, ◌∙◌, Bool, true, false, cond, ◌||◌, List, [], ◌∷◌, ◌++◌, map, add-mul, mul_assoc, zero-add, one-add, arith, lt-ltb, le-ltb, le-leb, eq-eqb, eqb-true, ltb-true, ltb-false, ltb, eqb, length, get_or}
 use Prim.Native.Char.{code}
@@ -6,7 +6,7 @@ use mathlib.Core.Bool.{and-eq-true_iff, false≢true}
 use native.Mathlib.Nat.{pow-succ'}
 use borrow.Author.Tests.{lt-leb}
 use lib.ListN.{length-map}
-use Rattle.script.specs.Text.{ascii}
+use Rattle.script.specs.Text.{ascii, on_line, lines_of}
 use Rattle.script.specs.Words.{on_first, parts_of, marks_in, same_text, is_decimal, is_letter, is_digit, all_digits, value_behind, held}
 use Rattle.script.specs.Words.{word_at, number_of, value_in, measure_of, is_empty_list, numbers_of, measures_of}
 use Rattle.script.specs.Hex.{is_hex, digit_value, hex_digit, bytes_of, hex_of}
@@ -70,6 +70,30 @@ part_unmarked mark k (x ∷ xs) = by (eqb x mark) refl (λ j. part_unmarked mark
         → marks_in mark (get_or (cond b ([] ∷ parts_of mark xs) (on_first x (parts_of mark xs))) k []) ≡ 0
     by true e none = marks_begun mark (parts_of mark xs) none k
     by false e none = marks_longer mark x (parts_of mark xs) e none k
+
+-- ---- the lines of a text
+
+-- parts without a last one that is empty
+unfoldable pub up_to_an_empty : List (List ℕ) → List (List ℕ)
+up_to_an_empty [] = []
+up_to_an_empty ([] ∷ []) = []
+up_to_an_empty ((x ∷ xs) ∷ []) = (x ∷ xs) ∷ []
+up_to_an_empty (part ∷ next ∷ rest) = part ∷ up_to_an_empty (next ∷ rest)
+
+-- its lines are its parts at the newlines, but for an empty one behind the last
+pub lines_parted : (text : List ℕ) → lines_of text ≡ up_to_an_empty (parts_of 10 text)
+unfolding up_to_an_empty
+lines_parted [] = refl
+lines_parted (x ∷ xs) = by (eqb x 10) (parts_of 10 xs) (omega (arith, parts_counted 10 xs)) (lines_parted xs)
+  where
+    by : (b : Bool) (parts : List (List ℕ)) → 0 < length parts → lines_of xs ≡ up_to_an_empty parts
+        → cond b ([] ∷ lines_of xs) (on_line x (lines_of xs)) ≡ up_to_an_empty (cond b ([] ∷ parts) (on_first x parts))
+    by b [] h e = absurd (omega arith)
+    by true (part ∷ parts) h e = ap (λ (lines : List (List ℕ)). [] ∷ lines) e
+    by false ([] ∷ []) h e = ap (on_line x) e
+    by false ((y ∷ ys) ∷ []) h e = ap (on_line x) e
+    by false ([] ∷ next ∷ rest) h e = ap (on_line x) e
+    by false ((y ∷ ys) ∷ next ∷ rest) h e = ap (on_line x) e
 
 -- ---- two texts
 

@@ -8,12 +8,19 @@ use measure::roundings::Roundings;
 use measure::tanks;
 use measure::units::Hundredths;
 use script::hex;
+use script::remarks::Remark;
 use sheet::{Changed, Counted, Entering, Reported, Sheet, TankEntering};
 use spaces::space::Space;
 use std::fmt::Display;
 use std::io;
 
 const BYTES_AT_A_TIME: usize = 2048;
+
+// A remark and a newline, each written by itself.
+pub fn remark(rt: &impl Print, remark: Remark) -> io::Result<()> {
+    print!(rt; "{remark}")?;
+    println!(rt)
+}
 
 pub fn changed(rt: &impl Print, changed: Changed) -> io::Result<Sheet> {
     println!(rt; "{}", changed.number)?;

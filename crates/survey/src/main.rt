@@ -9,8 +9,9 @@ use dayfile::Reading;
 use input::read_full;
 use measure::units::Hundredths;
 use script::remarks::Remark;
-use script::{calls, hex, text, words};
-use sheet::{Entry, Sheet, Tank};
+use script::text::{self, Lines};
+use script::{calls, hex, words};
+use sheet::{Changed, Entry, Sheet, Tank};
 use std::io;
 
 // A call by its form: with words that may be left out, or without.
@@ -103,7 +104,7 @@ fn main(rt: HostRuntime) -> io::Result<()> {
     let mut script = text::script_buffer();
     let n = read_full(&mut rt.reader(), &mut script)?;
     if text::MOST_BYTES < n {
-        return println!(rt; "{}", Remark::ScriptTooLong);
+        return answers::remark(&rt, Remark::ScriptTooLong);
     }
     answer_lines(&rt, &script[..n])
 }
@@ -111,7 +112,7 @@ fn main(rt: HostRuntime) -> io::Result<()> {
 // At the start the current sheet is one not open. A loop of its own, beside that of `figures`: this one hands the sheet on.
 fn answer_lines(rt: &impl Print, script: &[u8]) -> io::Result<()> {
     let mut sheet = Sheet::closed();
-    for line in script.split(|byte| *byte == b'\n') {
+    for line in Lines(script) {
         sheet = answer_line(rt, sheet, line)?;
     }
     Ok(())
@@ -123,19 +124,18 @@ fn answer_line(rt: &impl Print, sheet: Sheet, line: &[u8]) -> io::Result<Sheet> 
         Ok(None) => Ok(sheet),
         Ok(Some(place)) => make(rt, sheet, Line(line), CALLS[place]),
         Err(remark) => {
-            println!(rt; "{remark}")?;
+            answers::remark(rt, remark)?;
             Ok(sheet)
         }
     }
 }
 
 // Makes a call with the words of its line. Of those that may be left out a vessel number, an end, a deck and a filling are then 0, and
-// a form is 1.
+// a form is 1. What takes more of the stack than a sheet is a function that is never inlined, so that no call takes another's.
 fn make(rt: &impl Print, sheet: Sheet, line: Line, call: Call) -> io::Result<Sheet> {
     match call {
-        Call::Open | Call::OpenWithVessel => {
-            answers::changed(rt, Sheet::open(line.measure(1), line.vessel(2)))
-        }
+        Call::Open | Call::OpenWithVessel | Call::Withdraw | Call::Mark | Call::Undo | Call::Redo =>
+            answers::changed(rt, change(sheet, line, call)),
         Call::Enter | Call::EnterWithEnds | Call::EnterWithEndsAndDeck => {
             enter(
                 rt,
@@ -146,10 +146,6 @@ fn make(rt: &impl Print, sheet: Sheet, line: Line, call: Call) -> io::Result<She
         }
         Call::EnterWithDeck => enter(rt, sheet, line, entry(line, 0, 0, line.code(8))),
         Call::EnterTank | Call::EnterTankWithDeck => enter_tank(rt, sheet, line),
-        Call::Withdraw => answers::changed(rt, sheet.withdraw(line.id(1))),
-        Call::Mark => answers::changed(rt, sheet.mark(line.id(1), line.code(2))),
-        Call::Undo => answers::changed(rt, sheet.undo()),
-        Call::Redo => answers::changed(rt, sheet.redo()),
         Call::Counts => answers::counted(rt, sheet.counts()),
         Call::Report => answers::reported(rt, sheet.report(line.code(1))),
         Call::Write => write(rt, sheet, line, 0, 1),
@@ -172,7 +168,20 @@ fn make(rt: &impl Print, sheet: Sheet, line: Line, call: Call) -> io::Result<She
     }
 }
 
+// Opens a sheet, makes a change other than an entry, takes one back or makes it again: these answer a number alone.
+#[inline(never)]
+fn change(sheet: Sheet, line: Line, call: Call) -> Changed {
+    match call {
+        Call::Open | Call::OpenWithVessel => Sheet::open(line.measure(1), line.vessel(2)),
+        Call::Withdraw => sheet.withdraw(line.id(1)),
+        Call::Mark => sheet.mark(line.id(1), line.code(2)),
+        Call::Undo => sheet.undo(),
+        _ => sheet.redo(),
+    }
+}
+
 // Enters a space, with the two lists of the line.
+#[inline(never)]
 fn enter(rt: &impl Print, sheet: Sheet, line: Line, entry: Entry) -> io::Result<Sheet> {
     let kind = entry.kind;
     with_lists(line, |heights, breadths| {
@@ -206,6 +215,7 @@ fn entry(line: Line, fore_end: u8, aft_end: u8, deck: u8) -> Entry {
 }
 
 // Enters a tank, with the two lists of the line.
+#[inline(never)]
 fn enter_tank(rt: &impl Print, sheet: Sheet, line: Line) -> io::Result<Sheet> {
     with_lists(line, |depths, breadths| {
         answers::tank_entering(rt, sheet.enter_tank(tank(line), depths, breadths))
@@ -224,6 +234,7 @@ fn tank(line: Line) -> Tank {
 }
 
 // Writes the sheet into a buffer of the size that the line says, whose bytes are all its filling.
+#[inline(never)]
 fn write(rt: &impl Print, sheet: Sheet, line: Line, fill: u8, form: u8) -> io::Result<Sheet> {
     let mut room = [fill; 65536];
     let buffer = &mut room[..words::size_in(line.word(3))];
@@ -233,6 +244,7 @@ fn write(rt: &impl Print, sheet: Sheet, line: Line, fill: u8, form: u8) -> io::R
 
 // Reads a sheet of the file that a word is: its last, or the one before a start. Both come as closures: of
 // `dayfile::read` as a value a proof asks the contract by its module, which dayfile doesn't export.
+#[inline(never)]
 fn read<F: FnOnce(&[u8]) -> Reading>(rt: &impl Print, file: &[u8], read: F) -> io::Result<Sheet>
     requires { F.IsAlwaysCallable read }
 {
@@ -242,6 +254,7 @@ fn read<F: FnOnce(&[u8]) -> Reading>(rt: &impl Print, file: &[u8], read: F) -> i
 }
 
 // Moves a file's last sheet into a buffer, as `write` has one.
+#[inline(never)]
 fn move_last(rt: &impl Print, line: Line) -> io::Result<()> {
     let mut file = [0u8; 65536];
     let n = hex::bytes(line.word(1), &mut file);
@@ -252,6 +265,7 @@ fn move_last(rt: &impl Print, line: Line) -> io::Result<()> {
 }
 
 // Where a tank is measured, which needs no sheet.
+#[inline(never)]
 fn zones(rt: &impl Print, line: Line) -> io::Result<()> {
     answers::zones(
         rt,

@@ -1,9 +1,10 @@
 -- The measures of a list, one number after the other.
-use Rattle.std.proofs.Common.{ℕ, ◌+◌, ◌<◌, ◌≤◌, min, ◌≡◌, sym, ap, ◌∙◌, true, false, cond, List, [], ◌∷◌, map, arith, eqb, length, take, get_or, length-take}
+use Rattle.std.proofs.Common.{ℕ, ◌+◌, ◌<◌, min, ◌≡◌, sym, ap, ◌∙◌, true, false, List, [], map, arith, eqb, length, take, get_or, length-take}
 use lib.ListN.{length-map}
 use Rattle.std.proofs.lemmas.List.{get_or-map}
 use Rattle.std.specs.List.{slice_split, enumerate_from}
 use Rattle.std.proofs.lemmas.List.FromFn.{length-enumerate_from}
+use Rattle.script.specs.Laid.{fitting}
 use Rattle.script.specs.Words.{parts_of, marks_in, is_empty_list, measure_of, measures_of}
 use Rattle.script.proofs.Laws.Laid.{listed}
 use Rattle.script.proofs.Laws.Parts.{parts_counted, parts_split}
@@ -11,11 +12,6 @@ use Rattle.script.proofs.Laws.Parts.{parts_counted, parts_split}
 pub no_measures : (list : List ℕ) → is_empty_list list ≡ true → measures_of list ≡ []
 unfolding measures_of
 no_measures list e = rw e
-
-pub marks_fit : (m : ℕ) (xs : List ℕ) → marks_in m xs ≤ length xs
-marks_fit m [] = omega arith
-marks_fit m (x ∷ xs) =
-    elim (eqb x m) as (λ b. cond b 1 0 + marks_in m xs ≤ length (x ∷ xs)) [ true ↦ omega (arith, marks_fit m xs) | false ↦ omega (arith, marks_fit m xs) ]
 
 pub measures_listed : (list : List ℕ) (n : ℕ)
     → length (enumerate_from 0 (take n (slice_split (λ b. eqb b 44) list))) ≡ min n (marks_in 44 list + 1)
@@ -30,6 +26,10 @@ module _ (list : List ℕ) (some : is_empty_list list ≡ false) where
 
   pub measures_length : length (measures_of list) ≡ marks_in 44 list + 1
   measures_length = ap length some_measures ∙ length-map (parts_of 44 list) measure_of ∙ omega (arith, parts_counted 44 list)
+
+  -- once the first numbers are passed, as many as there are places, those that fit are
+  pub all_passed : (array : List ℕ) (k : ℕ) → k ≡ length (enumerate_from 0 (take (length array) (slice_split (λ b. eqb b 44) list))) → k ≡ fitting (measures_of list) array
+  all_passed array k e = omega (arith, measures_length, measures_listed list (length array))
 
   -- what a turn over the first n numbers, each with its place, gives
   pub measure_listed : (n place k : ℕ) (number : List ℕ)

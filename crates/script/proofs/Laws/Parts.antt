@@ -1,9 +1,9 @@
--- Parts of a text in std's words: what `split`, `filter` and `position` give of it.
-use Rattle.std.proofs.Common.{ℕ, zero, suc, ◌≤◌, ◌+◌, ◌<◌, ◌≡◌, refl, sym, ap, ◌∙◌, true, false, cond, List, [], ◌∷◌, arith, eqb, length, drop, get_or, drop_of_length-le, Bor}
-use Rattle.std.specs.List.{slice_split, onto_first, count_by, slice_get}
+-- Parts of a text in std's words: what `split` and `position` give of it, and its marks one byte after the other.
+use Rattle.std.proofs.Common.{ℕ, zero, suc, ◌≤◌, ◌+◌, ◌<◌, ◌≡◌, refl, sym, ap, ◌∙◌, Bool, true, false, cond, List, [], ◌∷◌, ◌++◌, arith, eq-eqb, ne_eqb, eqb, length, take, drop, get_or, drop_of_length-le, Bor}
+use Rattle.std.specs.List.{slice_split, onto_first, slice_get}
 use Rattle.std.specs.Option.{unwrap_or, option_map}
 use Rattle.std.specs.Prelude.{Option, Some, None}
-use Rattle.std.proofs.lemmas.List.Sums.{sum_by-cons}
+use Rattle.std.proofs.lemmas.List.{take_more}
 use Rattle.script.specs.Words.{on_first, parts_of, marks_in, first}
 
 on_first_lem : (x : ℕ) (parts : List (List ℕ)) → 0 < length parts → on_first x parts ≡ onto_first x parts
@@ -31,10 +31,20 @@ parts_split m (x ∷ xs) =
       | false ↦ ap (onto_first x) (parts_split m xs) ∙ sym (on_first_lem x (parts_of m xs) (omega (arith, parts_counted m xs)))
     ]
 
-pub marks_counted : (m : ℕ) (xs : List ℕ) → count_by (λ b. eqb b m) xs ≡ marks_in m xs
-marks_counted m [] = refl
-marks_counted m (x ∷ xs) =
-    sum_by-cons (λ b. cond (eqb b m) 1 0) x xs ∙ ap (λ (n : ℕ). cond (eqb x m) 1 0 + n) (marks_counted m xs)
+marks_behind : (m : ℕ) (xs : List ℕ) (x : ℕ) → marks_in m (xs ++ (x ∷ [])) ≡ marks_in m xs + cond (eqb x m) 1 0
+marks_behind m [] x = omega arith
+marks_behind m (y ∷ ys) x = omega (arith, marks_behind m ys x)
+
+-- one byte more, a mark or none
+module _ (m : ℕ) (xs : List ℕ) (i : ℕ) (h : i < length xs) where
+  marks_more : marks_in m (take (i + 1) xs) ≡ marks_in m (take i xs) + cond (eqb (get_or xs i 0) m) 1 0
+  marks_more = ap (marks_in m) (take_more xs i 0 h) ∙ marks_behind m (take i xs) (get_or xs i 0)
+
+  pub marks_found : get_or xs i 0 ≡ m → marks_in m (take (i + 1) xs) ≡ marks_in m (take i xs) + 1
+  marks_found e = marks_more ∙ ap (λ (b : Bool). marks_in m (take i xs) + cond b 1 0) (eq-eqb _ _ e)
+
+  pub marks_passed : (get_or xs i 0 ≡ m → ⊥) → marks_in m (take (i + 1) xs) ≡ marks_in m (take i xs)
+  marks_passed ne = marks_more ∙ ap (λ (b : Bool). marks_in m (take i xs) + cond b 1 0) (ne_eqb _ _ ne) ∙ omega arith
 
 -- the first part, behind no mark
 pub first_part : (m : ℕ) (xs : List ℕ) → get_or (parts_of m xs) 0 [] ≡ first m xs

@@ -1,10 +1,20 @@
--- `words::marks` meets its contract: the bytes that pass the test are the marks.
-use Rattle.std.proofs.Common.{◌≡◌, ◌∙◌, rules, eqb}
-use Rattle.std.specs.List.{count_by}
-use Rattle.script.proofs.Laws.Parts.{marks_counted}
+-- `words::marks` meets its contract: a byte more is a mark more, or none.
+use Rattle.std.proofs.Common.{arith}
+use Rattle.script.proofs.Laws.Parts.{marks_found, marks_passed}
+use Rattle.script.proofs.words.marks.Goals.{then-byte-mark, else-byte-mark}
 use Rattle.script.proofs.words.marks.Goals as goal
 
-pub returns : goal.returns
-returns c =
-    let counted : c.count.result ≡ count_by (λ b. eqb b c.args.mark) c.args.text.now = search rules in
-    counted ∙ marks_counted c.args.mark c.args.text.now
+pub loop-byte-preserved : goal.loop-byte-preserved
+loop-byte-preserved c =
+    let l = c.loop-byte in
+    let text = c.args.text.now in
+    elim c.if-byte-mark.branch [
+      | then-byte-mark w ↦ record {
+        counted = omega (arith, w.n-is, l.invariant.counted, marks_found c.args.mark text l.byte-index (omega arith) w.if-byte-mark.true);
+        few = omega (arith, w.n-is, l.invariant.few);
+      }
+      | else-byte-mark w ↦ record {
+        counted = omega (arith, w.n-is, l.invariant.counted, marks_passed c.args.mark text l.byte-index (omega arith) w.if-byte-mark.false);
+        few = omega (arith, w.n-is, l.invariant.few);
+      }
+    ]
