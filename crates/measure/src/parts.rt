@@ -14,12 +14,12 @@ const LEAST_BY_TABLE: usize = 6;
 const MOST_BY_TABLE: usize = 16;
 
 // The table of 69.109(g)(1), worked out from the length (T-03 of document 02): the fifties begun, doubled, and 4 more, with 6 the least and
-// 16 the most.
+// 16 the most. Not by `div_ceil`, which takes the remainder too.
 #[tactic(auto, using(crate::proofs::Laws::Parts::table_by_fifties))]
 pub(crate) fn by_table(length: Hundredths) -> usize
     ensures { result ≡ table_parts length }
 {
-    let begun = (length.0 as usize).div_ceil(FIFTY);
+    let begun = (length.0 as usize + FIFTY - 1) / FIFTY;
     (2 * begun + 4).clamp(LEAST_BY_TABLE, MOST_BY_TABLE)
 }
 
