@@ -5,7 +5,7 @@ refused only because its proof no longer fits the code's shape. What is said fir
 Run at the root of the project, on what `rt ci` said, which `make proofs` keeps: python3 tools/edits.py [LOG]
 
 Of a goal that is new, and for which no values are found, nothing says whether it is false or has lost its answer. It is taken for a
-fact, but where the proof file of its function answers it under a name with another comparison in it.
+fact, but where the proof file of its function answers it under a name with another comparison in it, or with another constant in that.
 """
 import re
 import sys
@@ -20,7 +20,7 @@ SHAPE = re.compile(r'which was rejected, w|has no `|has no field|is not in scope
 UNANSWERED = re.compile(r'note: (src/\w+\.rt):(\d+):\d+: it is not proved .*\(`([^`]+)`\)(?:; `search` gave up.*)?')
 ANSWER = re.compile(r'^(?:pub )?([a-z]\S*) :(?= |$)', re.M)
 FUNCTION = re.compile(r'\bfn (\w+)')
-COMPARISON = re.compile(r'(?<=-)(?:lt|le|gt|ge|eq|ne)(?![a-z])')
+COMPARISON = re.compile(r'(?<=-)(?:lt|le|gt|ge|eq|ne)(?:\d+|-[A-Z_]+)?(?![a-z])')
 
 
 def lost_answer(crate: Path, source: str, line: int, goal: str) -> bool:
@@ -28,7 +28,8 @@ def lost_answer(crate: Path, source: str, line: int, goal: str) -> bool:
     lines = (crate / source).read_text().splitlines()
     before, behind = (FUNCTION.findall('\n'.join(part)) for part in (lines[:line], lines[line:]))
     function = (before[-1:] + behind[:1])[0]
-    answers = {name for path in crate.glob(f'proofs/**/{function}/Answers.antt') for name in ANSWER.findall(path.read_text())}
+    files = (path for path in crate.glob('proofs/**/Answers.antt') if path.parent.name.lstrip('+') == function)
+    answers = {name for path in files for name in ANSWER.findall(path.read_text())}
     return goal not in answers and COMPARISON.sub('', goal) in {COMPARISON.sub('', name) for name in answers}
 
 
