@@ -1,5 +1,5 @@
 -- What the functions inside the crate ask and tell one another. No promise of a public function cites anything here.
-use Rattle.std.specs.Prelude.{ℕ, ◌+◌, ◌*◌, ◌≤◌, ◌≡◌, List, length}
+use Rattle.std.specs.Prelude.{ℕ, ◌+◌, ◌*◌, ◌≤◌, ◌≡◌, List, length, replicate}
 use Rattle.std.proofs.lemmas.List.Edits.{sets}
 use Rattle.listing.specs.Listing.{text_size}
 use Rattle.listing.specs.declared.listing.Listing.{Listing}
@@ -30,3 +30,8 @@ pub record PutLines (before : Listing) (bytes : List ℕ) (count : ℕ) (after :
 pub record PutText (before : Listing) (bytes : List ℕ) (after : Listing) : Type 0 where
   pub put : Put before bytes after
   pub fits : length bytes ≤ text_size
+
+-- a listing with no text in it
+pub record Blank (l : Listing) : Type 0 where
+  pub zeros : l.text ≡ replicate text_size 0
+  pub none : l.size ≡ 0

@@ -2,7 +2,7 @@
 ghost use Rattle.std.specs.Prelude.{◌≡◌};
 ghost use Rattle.sheet.specs.Calls.{reported};
 ghost use Rattle.listing.specs.Listing.{sheet_text, file_text, listed};
-ghost use Rattle.listing.specs.Handed.{PutText};
+ghost use Rattle.listing.specs.Handed.{PutText, Blank};
 
 use dayfile::read;
 use dayfile::refusals::NO_SHEET;
@@ -19,20 +19,26 @@ pub struct Listing {
     pub size: usize,
 }
 
-// Lists the last sheet of a file, in room for the longest listing: 200 spaces and three lines more, none of more than 33 bytes. The empty
-// one is written out here: answered by a function it would be copied once more.
+// Lists the last sheet of a file.
 pub fn list(file: &[u8]) -> Listing
     ensures { result ≡ listed file.now }
 {
-    let mut listing = Listing {
-        text: [0; 8192],
-        size: 0,
-    };
+    let mut listing = Listing::empty();
     listing.put_text(file);
     listing
 }
 
 impl Listing {
+    // Room for the longest listing: 200 spaces and three lines more, none of more than 33 bytes.
+    fn empty() -> Listing
+        ensures { Blank result }
+    {
+        Listing {
+            text: [0; 8192],
+            size: 0,
+        }
+    }
+
     // Puts the text of a file.
     fn put_text(&mut self, file: &[u8])
         requires { self.old.size ≡ 0 }

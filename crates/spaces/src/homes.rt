@@ -1,4 +1,4 @@
-// The enclosing space of each space of a row by their places, laid down once: 200 chains are walked by it, and no id is sought twice.
+// The place of each space's enclosing space, laid down once a row: 200 chains are walked by it, and no walk searches.
 ghost use Rattle.std.specs.Prelude.{◌≡◌, ◌≤◌, length, get_or, take};
 ghost use Rattle.spaces.specs.Space.{empty_space};
 ghost use Rattle.spaces.specs.Around.{enclosing_place};

@@ -16,7 +16,7 @@ use Rattle.spaces.specs.declared.enclosure.Above.{Above}
 use Rattle.spaces.specs.declared.around.Around.{Around}
 use Rattle.spaces.proofs.Laws.Cases.{by_test}
 use Rattle.spaces.proofs.Laws.Row.{one_passed, sum_append}
-use Rattle.spaces.proofs.Laws.Places.{one_id_at, place_bounded}
+use Rattle.spaces.proofs.Laws.Places.{one_id_at, home_within}
 use Rattle.spaces.proofs.Laws.Before.{stands_before, place_before}
 
 -- ---- running sums: the rooms inside each place, and the lengths of all U, of the first i
@@ -58,7 +58,7 @@ module _ (xs : List Space) (i : ℕ) (inside : List ℕ) (lengths : ℕ) (s : Su
   after = set inside home (get_or inside home 0 + weight)
 
   home_bounded : home < 201
-  home_bounded = by_test (is_room x) (λ r. rw r (omega (arith, place_bounded x.within xs))) (λ r. rw r (omega arith))
+  home_bounded = omega (arith, home_within xs x)
 
   other_place : (w : ℕ) → (place_of w xs ≡ home → ⊥) → place_of w xs < length xs → get_or after (place_of w xs) 0 ≡ sum_of (Inside w) (take i xs)
   other_place w ne l = get_or-set_other inside home (place_of w xs) _ 0 ne ∙ s.rooms w l
